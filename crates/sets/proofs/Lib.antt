@@ -1,0 +1,10 @@
+pub mod Sums
+pub mod Counts
+pub mod Bounds
+pub mod Bits
+pub mod OneMember
+pub mod TwoMasks
+pub mod Fronts
+pub mod Sizes
+pub mod Operations
+pub mod Laws
