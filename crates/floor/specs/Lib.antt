@@ -1,0 +1,5 @@
+pub mod Cards
+pub mod Drafts
+pub mod Payloads
+pub mod Refusals
+pub mod Sessions
