@@ -1,5 +1,6 @@
 use mathlib.Core.Path.{ap, sym, subst}
 use native.Mathlib.Omega.{arith}
+use borrow.Author.Needs.{needs}
 use lib.Count.{ones, ones-le}
 use lib.Pow.{pow-pos}
 use Rattle.floor.specs.Sessions.{Orderly}
@@ -10,9 +11,9 @@ pub ghost-result : need.ghost-result
 ghost-result c =
     let n = c .args .plan .counts .consoles in
     let none = ap (λ s. s .mask) (c .empty .ensures .set) in (
-      c .args .plan .some,
+      search needs,
       (
-        c .args .plan .few,
+        search needs,
         (
           omega (arith, pow-pos n, none),
           (
