@@ -1,6 +1,8 @@
 // Prints what floors will bear, for each count of honest consoles that they may have.
 use fitting::StandardFitDisplay;
 use fitting::standard_fit;
+use floor::Refusal;
+use floor::refusal::RefusalDisplay;
 use quorum::Counts;
 use std::env;
 use std::error::AnyError;
@@ -27,7 +29,14 @@ fn read_floors(rt: &LibcRuntime) -> Result<Vec<Counts>, AnyError> {
         };
         match Counts::new(*n, *t, *d) {
             Some(counts) => floors.push(counts)?,
-            None => return Err(format!(rt.alloc(), "there is no floor {n} {t} {d}")?.into()),
+            None => {
+                let refusal = Refusal::OutOfRange;
+                let number = refusal.number();
+                return Err(format!(
+                    rt.alloc(),
+                    "floor {n} {t} {d} is refused with {number}: {refusal}"
+                )?.into());
+            }
         }
     }
     if floors.is_empty() {
