@@ -35,8 +35,11 @@ pub impl fmt::Display for CasterFit as CasterFitDisplay {
             Thresholds::Plain {
                 deliver,
                 forward,
-                ..
-            } => write!(f, "qd {deliver} qf {forward} ")?,
+                single,
+            } => {
+                let single = if single { "on" } else { "off" };
+                write!(f, "qd {deliver} qf {forward} single {single} ")?
+            }
             Thresholds::Signed { deliver } => write!(f, "qd {deliver} ")?,
         }
         match self.figures {

@@ -10,7 +10,7 @@ use Rattle.quorum.specs.declared.fit.Misfit.the-variants.{ReadySupport}
 use Rattle.quorum.specs.declared.rules.Broken.{Broken}
 use Rattle.quorum.specs.declared.rules.Rule.{Rule}
 use Rattle.quorum.specs.declared.rules.Rule.the-variants.{Attainable, Amplified}
-use Rattle.quorum.specs.declared.thresholds.Thresholds.the-variants.{Plain}
+use Rattle.quorum.specs.declared.thresholds.Thresholds.the-variants.{Plain, Signed}
 use Rattle.quorum.specs.Figures.{figures-at, figures-of}
 use Rattle.quorum.specs.Fit.{misfit-of}
 use Rattle.quorum.specs.Rules.{first-broken}
@@ -37,6 +37,9 @@ figures backing support reach voice = Some (record { backing = backing; support 
 abbrev misfit : (n t d h : ℕ) → Option Misfit
 misfit n t d h = misfit-of (figures-of (standard-echo n t) n t d h) (figures-of (standard-ready t d) n t d h) d h
 
+abbrev signed-misfit : (qd n t d h : ℕ) → Option Misfit
+signed-misfit qd n t d h = misfit-of (figures-of (standard-echo n t) n t d h) (figures-of (Signed qd) n t d h) d h
+
 pub record WorkedFloors : Type 0 where
   pub of-4-1-0 : (standard-echo 4 1 ≡ Plain 3 2 true) × (standard-ready 1 0 ≡ Plain 3 2 false)
   pub of-4-1-0-at-3 : (echo-figures 4 1 0 3 ≡ figures 1 2 3 true) × (ready-figures 4 1 0 3 ≡ figures 1 2 3 false)
@@ -55,3 +58,7 @@ pub record WorkedFloors : Type 0 where
       (echo-figures 8 1 2 7 ≡ figures 1 4 3 true) × (ready-figures 8 1 2 7 ≡ figures 1 4 3 false) × (misfit 8 1 2 7 ≡ Some ReadySupport)
   pub of-8-1-2-at-8 :
       (echo-figures 8 1 2 8 ≡ figures 2 3 4 true) × (ready-figures 8 1 2 8 ≡ figures 2 3 4 false) × (misfit 8 1 2 8 ≡ None)
+  -- the standard echo caster with a signed ready caster
+  pub of-8-1-1-at-7-signed-5 :
+      (first-broken (Signed 5) 8 1 1 ≡ None) × (figures-at (Signed 5) 8 1 1 7 ≡ figures 4 5 6 true) × (signed-misfit 5 8 1 1 7 ≡ None)
+  pub of-8-1-1-at-7-signed-6 : (first-broken (Signed 6) 8 1 1 ≡ None) × (signed-misfit 6 8 1 1 7 ≡ Some ReadySupport)
