@@ -1,5 +1,6 @@
 -- What the standard pair of casters bears on a floor, and why it may not open. docs/model.md has the rules in words.
 use mathlib.Core.Bool.{_||_}
+use mathlib.Core.List.{[], _∷_}
 use mathlib.Core.Path.{_≡_}
 use Prim.Native.Nat.{ℕ, _-_}
 use lib.Dec.{ltb}
@@ -17,7 +18,7 @@ use Rattle.quorum.specs.Rules.{Borne, first-broken}
 use Rattle.quorum.specs.Standard.{standard-echo, standard-ready}
 use Rattle.floor.specs.declared.refusal.Refusal.{Refusal}
 use Rattle.floor.specs.declared.refusal.Refusal.the-variants.{OutOfRange, ThresholdRule, CastersMisfit}
-use Rattle.floor.specs.Refusals.{check, answer}
+use Rattle.floor.specs.Refusals.{check, first-found, answer}
 use Rattle.fitting.specs.declared.obstacle.Obstacle.{Obstacle}
 use Rattle.fitting.specs.declared.obstacle.Obstacle.the-variants.{Echo, Ready, Pair}
 use Rattle.fitting.specs.declared.standard.CasterFit.{CasterFit}
@@ -54,7 +55,7 @@ standard-obstacle n t d h = obstacle-of (echo-fit n t d h .figures) (ready-fit n
 -- the answer, for a count of honest consoles that the floor may have
 abbrev pub standard-fit-of : (n t d h : ℕ) → Result StandardFit Refusal
 standard-fit-of n t d h =
-    answer (check (ltb h (n - t) || ltb n h) OutOfRange None)
+    answer (first-found (check (ltb h (n - t) || ltb n h) OutOfRange ∷ []))
     (record { honest = h; echo = echo-fit n t d h; ready = ready-fit n t d h; obstacle = standard-obstacle n t d h })
 
 -- the floor opens: both casters keep every rule at each count of honest consoles, and their figures fit at h

@@ -18,7 +18,7 @@ use Rattle.floor.specs.declared.session.Session.{Session}
 use Rattle.floor.specs.declared.draft.DraftPlan.{DraftPlan}
 use Rattle.floor.specs.declared.refusal.Refusal.{Refusal}
 use Rattle.floor.specs.declared.refusal.Refusal.the-variants.{OutOfRange, WrongHonesty, SessionTwice, ByzantineFull, SessionsFull}
-use Rattle.floor.specs.Refusals.{check, answer, after}
+use Rattle.floor.specs.Refusals.{Check, check, first-found, answer, after}
 use Rattle.floor.specs.Sessions.{entries, listed}
 
 -- n consoles, at most t Byzantine, at most d copies of a message lost, at most so many payloads, the Byzantine consoles, the sessions
@@ -51,7 +51,7 @@ abbrev pub outside : (low high x : ℕ) → Bool
 outside low high x = ltb x low || ltb high x
 
 abbrev pub plan-refusal : ℕ → ℕ → ℕ → ℕ → Option Refusal
-plan-refusal n t d v = check (outside 1 32 n || (outside 0 n t || (outside 0 n d || outside 1 8 v))) OutOfRange None
+plan-refusal n t d v = first-found (check (outside 1 32 n || (outside 0 n t || (outside 0 n d || outside 1 8 v))) OutOfRange ∷ [])
 
 abbrev pub plan-answer : ℕ → ℕ → ℕ → ℕ → Result DraftState Refusal
 plan-answer n t d v = answer (plan-refusal n t d v) (new-draft n t d v)
@@ -61,26 +61,28 @@ abbrev pub planned : Result DraftPlan Refusal → Result DraftState Refusal
 planned (Ok p) = Ok (plan-of p)
 planned (Err e) = Err e
 
-abbrev pub mark-refusal : DraftState → ℕ → Option Refusal
-mark-refusal s console =
+abbrev pub mark-checks : DraftState → ℕ → List Check
+mark-checks s console =
     check (leb (s .n) console) OutOfRange
-    (check (has (s .byzantine .mask) console) WrongHonesty
-    (check (leb (s .t) (ones (s .byzantine .mask))) ByzantineFull None))
+    ∷ check (has (s .byzantine .mask) console) WrongHonesty
+    ∷ check (leb (s .t) (ones (s .byzantine .mask))) ByzantineFull
+    ∷ []
 
 abbrev pub marked : DraftState → ℕ → DraftState
 marked s console = record { n = s .n; t = s .t; d = s .d; capacity = s .capacity; byzantine = with-console (s .byzantine) console; sessions = s .sessions }
 
 abbrev pub mark-answer : DraftState → ℕ → Result (Unit {0}) Refusal
-mark-answer s console = answer (mark-refusal s console) tt
+mark-answer s console = answer (first-found (mark-checks s console)) tt
 
 abbrev pub after-mark : DraftState → ℕ → DraftState
-after-mark s console = after (mark-refusal s console) s (marked s console)
+after-mark s console = after (first-found (mark-checks s console)) s (marked s console)
 
-abbrev pub enter-refusal : DraftState → ℕ → ℕ → Option Refusal
-enter-refusal s owner sequence =
+abbrev pub enter-checks : DraftState → ℕ → ℕ → List Check
+enter-checks s owner sequence =
     check (leb (s .n) owner || ltb 65535 sequence) OutOfRange
-    (check (listed (record { owner = owner; sequence = sequence }) (s .sessions)) SessionTwice
-    (check (leb 16 (length (s .sessions))) SessionsFull None))
+    ∷ check (listed (record { owner = owner; sequence = sequence }) (s .sessions)) SessionTwice
+    ∷ check (leb 16 (length (s .sessions))) SessionsFull
+    ∷ []
 
 -- the new session stands last
 abbrev pub entered-session : DraftState → ℕ → ℕ → DraftState
@@ -95,10 +97,10 @@ entered-session s owner sequence = record {
 
 -- a session is answered by its number
 abbrev pub enter-answer : DraftState → ℕ → ℕ → Result ℕ Refusal
-enter-answer s owner sequence = answer (enter-refusal s owner sequence) (length (s .sessions))
+enter-answer s owner sequence = answer (first-found (enter-checks s owner sequence)) (length (s .sessions))
 
 abbrev pub after-enter : DraftState → ℕ → ℕ → DraftState
-after-enter s owner sequence = after (enter-refusal s owner sequence) s (entered-session s owner sequence)
+after-enter s owner sequence = after (first-found (enter-checks s owner sequence)) s (entered-session s owner sequence)
 
 abbrev pub session-answer : DraftState → ℕ → Result Session Refusal
 session-answer s number = okOr (nth (s .sessions) number) OutOfRange

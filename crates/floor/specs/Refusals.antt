@@ -1,11 +1,13 @@
 -- The numbers of the refusals. docs/model.md says when each is answered.
-use mathlib.Core.Bool.{Bool, cond}
+use mathlib.Core.Bool.{Bool, true, false, cond}
+use mathlib.Core.List.{List, [], _∷_}
 use mathlib.Core.Path.{_≡_}
-use Prim.Native.Nat.{ℕ}
+use Prim.Native.Nat.{ℕ, _<_, _≤_}
 use Rattle.std.specs.declared.option.Option.{Option}
 use Rattle.std.specs.declared.option.Option.the-variants.{Some, None}
 use Rattle.std.specs.declared.result.Result.{Result}
 use Rattle.std.specs.declared.result.Result.the-variants.{Ok, Err}
+use Rattle.std.specs.shelf.Lists.{All}
 use Rattle.floor.specs.declared.refusal.Refusal.{Refusal}
 use Rattle.floor.specs.declared.refusal.Refusal.the-variants.{OutOfRange, WrongHonesty, SessionTwice, ThresholdRule, TooFewPlaces, NotAPermutation, ForgedSignature, OtherFloor, ByzantineFull, SessionsFull, PayloadsFull, AlreadyCast, NoSuchCopy, LossesUsed, NothingNew, CastersMisfit, NothingWaiting, Disagreement}
 
@@ -30,12 +32,36 @@ number-of NothingWaiting = 29
 number-of Disagreement = 30
 
 -- no two refusals have one number
-abbrev pub Numbered-apart : Type 0
-Numbered-apart = (a b : Refusal) → number-of a ≡ number-of b → a ≡ b
+abbrev pub NumberedApart : Type 0
+NumberedApart = (a b : Refusal) → number-of a ≡ number-of b → a ≡ b
 
--- Checks run one after the other, and the first that finds something answers its refusal.
-abbrev pub check : Bool → Refusal → Option Refusal → Option Refusal
-check found refusal rest = cond found (Some refusal) rest
+-- a check of a call, and what it refuses with where it finds something
+pub record Check : Type 0 where
+  pub found : Bool
+  pub refusal : Refusal
+
+abbrev pub check : Bool → Refusal → Check
+check found refusal = record { found = found; refusal = refusal }
+
+-- checks run one after the other, and the first that finds something answers
+abbrev pub first-found : List Check → Option Refusal
+first-found [] = None
+first-found (c ∷ rest) = cond (c .found) (Some (c .refusal)) (first-found rest)
+
+-- the checks stand by rising number
+abbrev pub Rising : List Check → Type 0
+Rising [] = Unit {0}
+Rising (c ∷ []) = Unit {0}
+Rising (c ∷ d ∷ rest) = (number-of (c .refusal) < number-of (d .refusal)) × Rising (d ∷ rest)
+
+-- no check that finds something has a lower number than the answer
+abbrev pub Least : List Check → Option Refusal → Type 0
+Least checks None = All (λ c. c .found ≡ false) checks
+Least checks (Some answer) = All (λ c. c .found ≡ true → number-of answer ≤ number-of (c .refusal)) checks
+
+-- of checks by rising number the lowest that finds something answers
+abbrev pub LowestAnswers : Type 0
+LowestAnswers = (checks : List Check) → Rising checks → Least checks (first-found checks)
 
 -- what a call answers: its refusal, or else a value
 abbrev pub answer : {A : Type 0} → Option Refusal → A → Result A Refusal

@@ -1,6 +1,6 @@
 // Why a call is refused. docs/model.md lists the cases.
 ghost use mathlib.Core.Path.{_≡_};
-ghost use Rattle.floor.specs.Refusals.{number-of, Numbered-apart};
+ghost use Rattle.floor.specs.Refusals.{LowestAnswers, NumberedApart, number-of};
 use std::fmt;
 
 // The numbers are part of the interface; some are not in use.
@@ -29,7 +29,14 @@ pub enum Refusal {
 impl Refusal {
     pub fn number(self) -> u8
         ensures value { λ r. ⌜ r ≡ number-of self ⌝ }
-        ensures apart { λ r. ⌜ Numbered-apart ⌝ }
+        ensures apart { λ _. ⌜ NumberedApart ⌝ }
+        ensures lowest { λ _. ⌜ LowestAnswers ⌝ }
+    {
+        self.discriminant()
+    }
+
+    fn discriminant(self) -> u8
+        ensures { λ r. ⌜ r ≡ number-of self ⌝ }
     {
         self as u8
     }

@@ -4,6 +4,7 @@ ghost use Prim.Native.Nat.{_≤_};
 ghost use lib.ListN.{length, take};
 ghost use Rattle.floor.specs.Cards.{card-bytes, card-refusal, card-planned, same-card, same-card-equivalence};
 ghost use Rattle.floor.specs.Refusals.{answer};
+ghost use Rattle.std.specs.Orderings.{Decides};
 ghost use Rattle.std.specs.shelf.Text.{sameBytes};
 use super::Card;
 use super::CardPlan;
@@ -51,7 +52,8 @@ fn padded(bytes: &[u8]) -> [u8; MAX_CARD_LEN]
 }
 
 fn same(a: &[u8], b: &[u8]) -> bool
-    ensures { λ r. ⌜ r ≡ sameBytes (now (a .entry)) (now (b .entry)) ⌝ }
+    ensures tested { λ r. ⌜ r ≡ sameBytes (now (a .entry)) (now (b .entry)) ⌝ }
+    ensures equal { λ r. ⌜ Decides r (now (a .entry) ≡ now (b .entry)) ⌝ }
 {
     a == b
 }
@@ -62,7 +64,10 @@ pub impl Payload for Card as CardPayload {
 
     ghost equivalence = { same-card-equivalence };
 
-    fn alike(&self, other: &Card) -> bool {
+    fn alike(&self, other: &Card) -> bool
+        ensures tested { λ r. ⌜ r ≡ same-card (now (self .entry)) (now (other .entry)) ⌝ }
+        ensures equal { λ r. ⌜ Decides r (card-bytes (now (self .entry)) ≡ card-bytes (now (other .entry))) ⌝ }
+    {
         same(self.as_bytes(), other.as_bytes())
     }
 }

@@ -2,7 +2,8 @@
 ghost use mathlib.Core.Path.{_≡_};
 ghost use mathlib.Core.Bool.{false};
 ghost use Rattle.std.specs.Results.{isOk};
-ghost use Rattle.floor.specs.Drafts.{state-of, mark-answer, after-mark, enter-answer, after-enter};
+ghost use Rattle.floor.specs.Drafts.{state-of, mark-checks, mark-answer, after-mark, enter-checks, enter-answer, after-enter};
+ghost use Rattle.floor.specs.Refusals.{Rising};
 use super::Draft;
 use crate::refusal::Refusal;
 use crate::session::MAX_SESSIONS;
@@ -16,6 +17,7 @@ impl Draft {
         ensures answered { λ r. ⌜ r ≡ mark-answer (state-of (now (self .entry))) console ⌝ }
         ensures left { λ r. ⌜ state-of (now (self .exit)) ≡ after-mark (state-of (now (self .entry))) console ⌝ }
         ensures kept { λ r. ⌜ (isOk r ≡ false → now (self .exit) ≡ now (self .entry)) ⌝ }
+        ensures rising { λ _. ⌜ Rising (mark-checks (state-of (now (self .entry))) console) ⌝ }
     {
         if console >= self.counts.consoles() {
             return Err(Refusal::OutOfRange);
@@ -35,6 +37,7 @@ impl Draft {
         ensures answered { λ r. ⌜ r ≡ enter-answer (state-of (now (self .entry))) owner sequence ⌝ }
         ensures left { λ r. ⌜ state-of (now (self .exit)) ≡ after-enter (state-of (now (self .entry))) owner sequence ⌝ }
         ensures kept { λ r. ⌜ (isOk r ≡ false → now (self .exit) ≡ now (self .entry)) ⌝ }
+        ensures rising { λ _. ⌜ Rising (enter-checks (state-of (now (self .entry))) owner sequence) ⌝ }
     {
         if owner >= self.counts.consoles() || sequence > MAX_SEQUENCE {
             return Err(Refusal::OutOfRange);

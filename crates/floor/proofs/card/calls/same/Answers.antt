@@ -4,4 +4,8 @@ use Rattle.floor.proofs.card.calls.same.Needs as need
 
 pub returns : need.returns
 returns c =
-    same-from-decides (c .eq .result) _ (matches-decides _ _ _ (c .eq .ensures)) (sameBytes-decides (c .args .a .now) (c .args .b .now))
+    let told = matches-decides _ _ _ (c .eq .ensures) in
+    record {
+      tested = same-from-decides (c .eq .result) _ told (sameBytes-decides (c .args .a .now) (c .args .b .now));
+      equal = told;
+    }
