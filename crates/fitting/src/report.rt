@@ -2,7 +2,7 @@
 use crate::obstacle::Obstacle;
 use crate::standard::CasterFit;
 use crate::standard::StandardFit;
-use floor::refusal::RefusalDisplay;
+use floor::RefusalDisplay;
 use quorum::Broken;
 use quorum::Figures;
 use quorum::Misfit;

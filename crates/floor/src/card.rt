@@ -3,7 +3,9 @@ ghost use mathlib.Core.Path.{_≡_};
 ghost use Prim.Native.Nat.{_≤_};
 ghost use lib.ListN.{length};
 
-pub mod calls;
+mod calls;
+
+pub use calls::CardPayload;
 
 pub const MAX_CARD_LEN: usize = 16;
 

@@ -2,7 +2,7 @@
 use fitting::StandardFitDisplay;
 use fitting::standard_fit;
 use floor::Refusal;
-use floor::refusal::RefusalDisplay;
+use floor::RefusalDisplay;
 use quorum::Counts;
 use std::env;
 use std::error::AnyError;

@@ -2,18 +2,18 @@
 #[cfg(test)]
 mod tests {
     use floor::Card;
+    use floor::CardPayload;
     use floor::Draft;
     use floor::DraftPlan;
     use floor::Payload;
     use floor::Refusal;
+    use floor::RefusalDebug;
+    use floor::RefusalPartialEq;
     use floor::Session;
+    use floor::SessionDebug;
+    use floor::SessionPartialEq;
     use floor::SessionResult;
-    use floor::card::calls::CardPayload;
-    use floor::refusal::RefusalDebug;
-    use floor::refusal::RefusalPartialEq;
-    use floor::session::SessionDebug;
-    use floor::session::SessionPartialEq;
-    use floor::session_result::SessionResultPayload;
+    use floor::SessionResultPayload;
     use sets::ConsoleSet;
     use sets::ConsoleSetIntoIterator;
     use sets::MembersIterator;

@@ -6,7 +6,7 @@ ghost use Rattle.std.specs.Options.{isSome};
 ghost use Rattle.std.specs.Slices.{found};
 
 // The consoles of a floor, at most how many of them are Byzantine, and at most how many copies of a message are lost.
-#[derive(Clone, Copy, PartialEq, Eq, Debug)]
+#[derive(Clone, Copy)]
 pub struct Counts {
     consoles: usize,
     byzantine: usize,

@@ -7,7 +7,7 @@ use crate::counts::Counts;
 use crate::figures::Figures;
 
 // Why a reliable broadcast may not stand on an echo caster and a ready caster.
-#[derive(Clone, Copy, PartialEq, Eq, Debug)]
+#[derive(Clone, Copy)]
 pub enum Misfit {
     // The echo caster may deliver two numbers in a session.
     EchoVoice,

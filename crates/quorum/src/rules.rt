@@ -7,7 +7,7 @@ use crate::counts::Counts;
 use crate::thresholds::Thresholds;
 
 // What thresholds have to keep at each count of honest consoles.
-#[derive(Clone, Copy, PartialEq, Eq, Debug)]
+#[derive(Clone, Copy)]
 pub enum Rule {
     // Among as many endorsers as make a console forward, or signers as make it deliver, one is honest.
     Witnessed,
@@ -24,7 +24,7 @@ pub enum Rule {
 }
 
 // The lowest count of honest consoles at which a rule fails, and the first rule that fails there.
-#[derive(Clone, Copy, PartialEq, Eq, Debug)]
+#[derive(Clone, Copy)]
 pub struct Broken {
     pub honest: usize,
     pub rule: Rule,

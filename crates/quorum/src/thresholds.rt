@@ -5,7 +5,7 @@ use crate::counts::Counts;
 
 // A console delivers a number at so many endorsements or signatures of it. At a plain caster it also endorses the number
 // itself at so many, and under `single` it endorses one number only.
-#[derive(Clone, Copy, PartialEq, Eq, Debug)]
+#[derive(Clone, Copy)]
 pub enum Thresholds {
     Plain {
         deliver: usize,
