@@ -7,7 +7,6 @@ use lib.Dec.{leb, ltb}
 use lib.ListN.{length}
 use Rattle.std.specs.Options.{okOr}
 use Rattle.std.specs.declared.option.Option.{Option}
-use Rattle.std.specs.declared.option.Option.the-variants.{None}
 use Rattle.std.specs.declared.result.Result.{Result}
 use Rattle.std.specs.declared.result.Result.the-variants.{Ok, Err}
 use Rattle.std.specs.shelf.Maps.{nth}

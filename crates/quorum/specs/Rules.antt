@@ -1,6 +1,5 @@
 -- What a caster's thresholds have to keep at g honest consoles, with at most t Byzantine consoles and d lost copies of a message.
 -- Every number here and in the other files is a natural number of any size.
-use mathlib.Core.Path.{_≡_}
 use mathlib.Core.Bool.{Bool, cond}
 use Prim.Native.Nat.{ℕ, zero, suc, _+_, _-_, _*_, _<_, _≤_}
 use lib.Dec.{ltb, leb}

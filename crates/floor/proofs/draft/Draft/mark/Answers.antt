@@ -1,5 +1,5 @@
 use mathlib.Core.Path.{ap}
-use Prim.Native.Nat.{_<_, _≤_}
+use Prim.Native.Nat.{_<_}
 use native.Mathlib.Omega.{arith}
 use lib.Count.{ones}
 use Rattle.sets.proofs.Operations.{with-member-lt, ones-with-le}
