@@ -29,13 +29,9 @@ refusal-of (Echo broken) = ThresholdRule
 refusal-of (Ready broken) = ThresholdRule
 refusal-of (Pair misfit) = CastersMisfit
 
--- the figures of a caster that breaks no rule
-abbrev pub figured : Option Broken → Figures → Result Figures Broken
-figured None figures = Ok figures
-figured (Some broken) figures = Err broken
-
+-- a caster has figures if it breaks no rule
 abbrev pub caster-fit : Thresholds → (n t d h : ℕ) → CasterFit
-caster-fit q n t d h = record { thresholds = q; figures = figured (first-broken q n t d) (figures-of q n t d h) }
+caster-fit q n t d h = record { thresholds = q; figures = answer (first-broken q n t d) (figures-of q n t d h) }
 
 -- the echo caster is made first, then the ready caster, and then the two are held against each other
 abbrev pub obstacle-of : Result Figures Broken → Result Figures Broken → (d h : ℕ) → Option Obstacle

@@ -63,12 +63,12 @@ Least checks (Some answer) = All (λ c. c .found ≡ true → number-of answer �
 abbrev pub LowestAnswers : Type 0
 LowestAnswers = (checks : List Check) → Rising checks → Least checks (first-found checks)
 
--- what a call answers: its refusal, or else a value
-abbrev pub answer : {A : Type 0} → Option Refusal → A → Result A Refusal
+-- what a call answers: what it is refused with, or else a value
+abbrev pub answer : {A E : Type 0} → Option E → A → Result A E
 answer None a = Ok a
 answer (Some e) a = Err e
 
 -- what a call leaves: a refused one leaves everything as it was
-abbrev pub after : {S : Type 0} → Option Refusal → S → S → S
+abbrev pub after : {S E : Type 0} → Option E → S → S → S
 after None old new = new
 after (Some e) old new = old

@@ -17,7 +17,7 @@ use Rattle.quorum.specs.declared.rules.Rule.the-variants.{Witnessed, Ordered, 
 use Rattle.quorum.specs.declared.thresholds.Thresholds.{Thresholds}
 use Rattle.quorum.specs.declared.thresholds.Thresholds.the-variants.{Plain, Signed}
 use Rattle.quorum.specs.Figures.{FiguresMean, figures-at, figures-of, unless-broken}
-use Rattle.quorum.specs.Rules.{unless, broken-at, broken-or, broken-from, first-broken, RulesHold, FailsFirst, Verdict}
+use Rattle.quorum.specs.Rules.{Borne, unless, broken-at, broken-or, broken-from, first-broken, RulesHold, FailsFirst, Verdict}
 
 -- A test that fails is told by its name, and one that holds leaves it to the later ones.
 unless-tells :
@@ -122,6 +122,12 @@ module _ (th : Thresholds) (t d : ℕ) where
   -- The answer over the whole range means what it should.
   pub verdict : (n : ℕ) (r : Option Broken) → r ≡ first-broken th n t d → Verdict th n t d r
   verdict n r e = verdict-of n r (subst (Told th t d (n - t) _) (sym e) (told-from (n - t) (n + 1 - (n - t))))
+
+  -- Thresholds that keep their rules are broken nowhere.
+  pub unbroken : (n : ℕ) (r : Option Broken) → r ≡ first-broken th n t d → Borne th n t d → r ≡ None
+  unbroken n None e borne = refl
+  unbroken n (Some b) e borne =
+      let first = verdict n (Some b) e in absurd (first .here (borne (b .honest) (first .least) (first .most)))
 
   -- A count at which a rule fails answers.
   pub broken-here :
