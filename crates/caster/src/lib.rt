@@ -1,4 +1,6 @@
 // What a caster is: what it means, the laws that it keeps, and the calls that every caster has. docs/casters.md explains them.
+#![tactic(auto)]
+
 mod delivery;
 mod draining;
 mod floor_figures;

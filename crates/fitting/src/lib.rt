@@ -1,4 +1,6 @@
 // What a floor will bear: the standard pair of casters at a count of honest consoles.
+#![tactic(auto)]
+
 mod obstacle;
 mod report;
 mod standard;

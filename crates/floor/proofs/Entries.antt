@@ -1,12 +1,11 @@
 -- The list that a table of sessions stands for, and what one session more keeps.
-use Rattle.std.proofs.Common.{◌≡◌, ℕ, ◌+◌, ◌<◌, ◌≤◌, Bool, true, false, eqb, List, [], ◌∷◌, ◌++◌, length, get_or, take, set, Some, None, Decides, refl, ap, ◌∙◌, ap₂, arith}
-use Rattle.std.specs.List.{IsAnyAnswer, slice_get}
-use Rattle.std.proofs.lemmas.List.Elements.{contains_decides}
+use Rattle.std.proofs.Common.{◌≡◌, ℕ, ◌+◌, ◌<◌, ◌≤◌, Bool, true, false, ◌||◌, List, [], ◌∷◌, ◌++◌, length, get_or, take, set, Some, None, refl, ap, ◌∙◌, ap₂, arith}
+use Rattle.std.specs.List.{list_any, slice_get}
 use Rattle.std.proofs.ByRecursion.{All-push}
 use Rattle.std.proofs.lemmas.List.{length-take-le, get_or-take, take_more_set}
 use Rattle.std.proofs.lemmas.Option.{slice_get-get_or, slice_get_past}
 use Rattle.std.proofs.lemmas.Bool.{or_parts, or_from}
-use Rattle.std.proofs.lemmas.Bool.Decides.{nat_tests, same_from_decides, Decides-eqb, Decides-and, Decides-by_or}
+use Rattle.std.proofs.lemmas.Bool.Decides.{nat_tests}
 use Rattle.floor.specs.declared.session.Session.{Session}
 use Rattle.floor.specs.declared.session.SessionList.{SessionList}
 use Rattle.floor.specs.Sessions.{entries, same_session, listed, Distinct, Orderly}
@@ -32,22 +31,11 @@ entry_past l k h = let long = length_entries l in slice_get_past (entries l) k (
 same_sym : (a b : Session) → same_session a b ≡ same_session b a
 same_sym a b = grind (arith, nat_tests)
 
--- two sessions pass the test exactly if they are equal
-decides_same : (s x : Session) → Decides (same_session x s) (x ≡ s)
-decides_same s x =
-    let both = Decides-and (eqb x.owner s.owner) (eqb x.sequence s.sequence) (Decides-eqb x.owner s.owner) (Decides-eqb x.sequence s.sequence) in
-    (λ h. let e = both.0 h in λ i. record { owner = e.0 i; sequence = e.1 i }, λ e. both.1 (ap (λ y. y.owner) e, ap (λ y. y.sequence) e))
-
-some_weaker : {X : Type 0} (E F : X → Bool → Type 0) (xs : List X) → ((y : X) (t : Bool) → E y t → F y t) → (r : Bool) → IsAnyAnswer E xs r → IsAnyAnswer F xs r
-some_weaker E F xs f true h = (h.0, h.1, λ d. f _ true (h.2 d))
-some_weaker E F xs f false h = λ k d low high. f _ false (h k d low high)
-
--- a search by a test that tells equal sessions from others finds s exactly if it is listed
-pub listed_found : (s : Session) (E : Session → Bool → Type 0) → ((y : Session) (t : Bool) → E y t → Decides t (y ≡ s)) → (xs : List Session) (r : Bool) → IsAnyAnswer E xs r → r ≡ listed s xs
+-- A search for a session that is the same as s finds one exactly if s is listed.
+pub any_listed : (s : Session) (xs : List Session) → list_any (λ x. same_session x s) xs ≡ listed s xs
 unfolding listed
-listed_found s E test xs r h =
-    same_from_decides r (listed s xs) (contains_decides eqb Decides-eqb xs s r (some_weaker E (λ y t. Decides t (y ≡ s)) xs test r h))
-    (Decides-by_or (λ x. same_session x s) (λ x. x ≡ s) (listed s) (decides_same s) refl (λ _ _. refl) xs)
+any_listed s [] = refl
+any_listed s (x ∷ xs) = ap (λ b. same_session x s || b) (any_listed s xs)
 
 listed_push : (x s : Session) (xs : List Session) → listed x xs ≡ false → same_session s x ≡ false → listed x (xs ++ (s ∷ [])) ≡ false
 unfolding listed

@@ -1,6 +1,6 @@
 -- Sessions in order of entry.
 use Rattle.std.specs.Prelude.{◌≡◌, ℕ, ◌<◌, Bool, false, ◌&&◌, ◌||◌, List, [], ◌∷◌, take, ◌==◌}
-use Rattle.std.specs.List.{AllByRecursion as All}
+use Rattle.std.specs.List.{AllByRecursion}
 use Rattle.floor.specs.declared.session.Session.{Session}
 use Rattle.floor.specs.declared.session.SessionList.{SessionList}
 
@@ -23,5 +23,5 @@ Distinct (x ∷ xs) = (listed x xs ≡ false) × Distinct xs
 
 -- the sessions of a floor of n consoles: each is owned by one of them, and no two are the same
 pub record Orderly (n : ℕ) (sessions : List Session) : Type 0 where
-  pub owned : All (λ s. s.owner < n) sessions
+  pub owned : AllByRecursion (λ s. s.owner < n) sessions
   pub distinct : Distinct sessions

@@ -1,4 +1,6 @@
 // The configuration of a floor: why calls are refused, the draft, and the payload kinds.
+#![tactic(auto)]
+
 mod card;
 mod draft;
 mod payload;

@@ -1,4 +1,6 @@
 // Prints what floors will bear, for each count of honest consoles that they may have.
+#![tactic(auto)]
+
 use anyhow::anyhow;
 use fitting::standard_fit;
 use floor::Refusal;

@@ -1,4 +1,6 @@
 // A walk through a set, and the refusals of draft and card in their order, at each limit and one beyond.
+#![tactic(auto)]
+
 #[cfg(test)]
 mod tests {
     use floor::{Card, Draft, DraftPlan, Payload, Refusal, Session, SessionResult};

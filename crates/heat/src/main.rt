@@ -1,4 +1,6 @@
 // Plays one wave of endorsements on the standard echo caster, and holds its end against what the laws promise.
+#![tactic(auto)]
+
 mod closing;
 mod drain;
 mod making;

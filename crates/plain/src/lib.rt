@@ -1,4 +1,6 @@
 // The plain caster: it carries payload numbers by endorsements, without signatures. docs/casters.md has its rules and its laws.
+#![tactic(auto)]
+
 mod plain_caster;
 mod plain_plan;
 

@@ -1,5 +1,7 @@
 // One session of the plain caster: who has endorsed which number, which copies are under way, and what a console does when an
 // endorsement reaches it. docs/casters.md has the rules.
+#![tactic(auto)]
+
 mod agenda;
 mod endorsement;
 mod places;

@@ -1,4 +1,6 @@
 // The plain caster: its refusals in their order, at each limit and one beyond, and waves worked out by hand.
+#![tactic(auto)]
+
 #[cfg(test)]
 mod making;
 #[cfg(test)]

@@ -1,4 +1,6 @@
 // Which thresholds a caster may have on a floor, what it then achieves, and whether two casters fit together.
+#![tactic(auto)]
+
 mod counts;
 mod figures;
 mod fit;

@@ -1,4 +1,6 @@
 // Sets of consoles, and counting over them.
+#![tactic(auto)]
+
 mod console_set;
 mod members;
 

@@ -6,8 +6,8 @@ use Rattle.fitting.proofs.standard.standard_fit.Goals as goal
 pub returns : goal.returns
 returns c =
     let counts = c.args.counts in
-    let none_else : c.obstacle-between-obstacle.result ≡ standard_obstacle counts.consoles counts.byzantine counts.lost c.args.honest = search rules in
+    let none_else : c.obstacle_between-obstacle.result ≡ standard_obstacle counts.consoles counts.byzantine counts.lost c.args.honest = search rules in
     record {
       answered = search rules;
-      opening = opening counts.consoles counts.byzantine counts.lost c.args.honest c.obstacle-between-obstacle.result none_else;
+      opening = opening counts.consoles counts.byzantine counts.lost c.args.honest c.obstacle_between-obstacle.result none_else;
     }

@@ -4,23 +4,15 @@ use Rattle.floor.specs.Sessions.{Orderly}
 use Rattle.floor.proofs.Entries.{orderly_push}
 use Rattle.floor.proofs.draft.Draft.enter.Goals as goal
 
-pub invariant-of-self : goal.invariant-of-self
-invariant-of-self c =
+pub invariant_of-self : goal.invariant_of-self
+invariant_of-self c =
     let draft = c.args.self.now in
     let owns : c.args.owner < draft.counts.consoles = omega arith in
-    let unlisted = sym c.if-contains.ensures in (
-      draft.some,
-      (
-        draft.few,
-        (
-          draft.within,
-          (
-            draft.tolerated,
-            (
-              ∥∥₁_map draft.orderly (λ o. subst (Orderly _) (sym c.push.ensures) (orderly_push _ _ _ owns unlisted o)),
-              tt,
-            ),
-          ),
-        ),
-      ),
-    )
+    let unlisted = sym c.if-contains.ensures in
+    record {
+      some = draft.some;
+      few = draft.few;
+      within = draft.within;
+      tolerated = draft.tolerated;
+      orderly = ∥∥₁_map draft.orderly (λ o. subst (Orderly _) (sym c.push.ensures) (orderly_push _ _ _ owns unlisted o));
+    }

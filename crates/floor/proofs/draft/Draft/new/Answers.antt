@@ -4,22 +4,14 @@ use Rattle.floor.specs.Sessions.{Orderly}
 use Rattle.floor.proofs.Entries.{orderly_none}
 use Rattle.floor.proofs.draft.Draft.new.Goals as goal
 
-pub invariant-of-result : goal.invariant-of-result
-invariant-of-result c =
+pub invariant_of-result : goal.invariant_of-result
+invariant_of-result c =
     let n = c.args.plan.counts.consoles in
-    let none = ap (λ s. s.mask) c.empty.ensures.set in (
-      search rules,
-      (
-        search rules,
-        (
-          omega (arith, pow_pos n, none),
-          (
-            omega (arith, ap ones none, ones-le 0 0 (pow_pos 0)),
-            (
-              ∣ subst (Orderly n) (sym c.new.ensures) (orderly_none n) ∣₁,
-              tt,
-            ),
-          ),
-        ),
-      ),
-    )
+    let none = ap (λ s. s.mask) c.empty.ensures.set in
+    record {
+      some = search rules;
+      few = search rules;
+      within = omega (arith, pow_pos n, none);
+      tolerated = omega (arith, ap ones none, ones-le 0 0 (pow_pos 0));
+      orderly = ∣ subst (Orderly n) (sym c.new.ensures) (orderly_none n) ∣₁;
+    }

@@ -5,8 +5,9 @@ use Rattle.floor.proofs.session.SessionList.push.Goals as goal
 pub bounds-self-self : goal.bounds-self-self
 bounds-self-self c = omega (arith, length_entries c.args.self.now)
 
-pub invariant-of-self : goal.invariant-of-self
-invariant-of-self c = (length-set _ _ _ ∙ c.args.self.now.places, (omega (arith, length_entries c.args.self.now), tt))
+pub invariant_of-self : goal.invariant_of-self
+invariant_of-self c =
+    record { places = length-set _ _ _ ∙ c.args.self.now.places; room = omega (arith, length_entries c.args.self.now) }
 
 pub returns : goal.returns
 returns c = entries_push c.args.self.now _ c.args.session (omega (arith, length_entries c.args.self.now)) refl refl

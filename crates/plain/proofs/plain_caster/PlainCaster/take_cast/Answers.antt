@@ -2,8 +2,8 @@
 use Rattle.plain_model.proofs.HiddenFacts.{cast_keeps, kept_count}
 use Rattle.plain.proofs.plain_caster.PlainCaster.take_cast.Goals as goal
 
-pub invariant-of-self : goal.invariant-of-self
-invariant-of-self c =
+pub invariant_of-self : goal.invariant_of-self
+invariant_of-self c =
     let caster = c.args.self.now in
     let vote = c.args.vote in
     let after = c.cast.new.self in

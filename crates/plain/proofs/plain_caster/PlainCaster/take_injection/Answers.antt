@@ -4,8 +4,8 @@ use Rattle.plain_tables.specs.declared.event.PlainEvent.TheVariants.{Inject}
 use Rattle.plain_model.proofs.HiddenFacts.{event_keeps, kept_count}
 use Rattle.plain.proofs.plain_caster.PlainCaster.take_injection.Goals as goal
 
-pub invariant-of-self : goal.invariant-of-self
-invariant-of-self c =
+pub invariant_of-self : goal.invariant_of-self
+invariant_of-self c =
     let caster = c.args.self.now in
     let after = c.receive.new.self in
     let good = event_keeps caster.plan caster.tables caster.good after (Inject (route_of c.args.route)) c.requires c.receive.ensures.left in

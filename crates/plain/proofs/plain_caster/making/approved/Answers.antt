@@ -8,8 +8,8 @@ use Rattle.plain_model.proofs.MadePlans.{Drafted, made_sound}
 use Rattle.plain_model.specs.Plans.{SoundPlan}
 use Rattle.plain.proofs.plain_caster.making.approved.Goals as goal
 
-pub invariant-of-result : goal.invariant-of-result
-invariant-of-result c =
+pub invariant_of-result : goal.invariant_of-result
+invariant_of-result c =
     let draft = c.args.draft.now in
     let setting = c.args.plan.setting in
     let s = state_of draft in

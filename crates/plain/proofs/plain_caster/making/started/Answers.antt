@@ -6,8 +6,8 @@ use Rattle.plain_model.proofs.FreshTables.{new_good}
 use Rattle.plain_model.specs.Invariant.{Good}
 use Rattle.plain.proofs.plain_caster.making.started.Goals as goal
 
-pub invariant-of-result : goal.invariant-of-result
-invariant-of-result c =
+pub invariant_of-result : goal.invariant_of-result
+invariant_of-result c =
     let made = c.args.plan in
     let tables = c.args.tables in
     let good = ∥∥₁_map made.sound (λ sound. subst (Good made.plan) (sym c.requires) (new_good made.plan sound)) in

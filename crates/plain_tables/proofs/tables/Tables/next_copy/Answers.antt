@@ -2,6 +2,6 @@ use Rattle.std.proofs.Common.{rules}
 use Rattle.sets.specs.Members.{first_member}
 use Rattle.plain_tables.proofs.tables.Tables.next_copy.Goals as goal
 
-pub returns-in-err-table-at : goal.returns-in-err-table-at
+pub returns-in_err-table_at : goal.returns-in_err-table_at
 unfolding first_member
-returns-in-err-table-at c = search rules
+returns-in_err-table_at c = search rules

@@ -38,8 +38,8 @@ returns-in-Some c =
       amplification = (rules_amplify, amplification);
     }
 
-pub returns-in-default : goal.returns-in-default
-returns-in-default c =
+pub returns-in_default : goal.returns-in_default
+returns-in_default c =
     let e : None ≡ answer c.args.self.now c.args.counts = search rules in
     record {
       answers = e;

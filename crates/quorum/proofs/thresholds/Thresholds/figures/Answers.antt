@@ -31,7 +31,7 @@ returns-then-honest-least c =
 
 pub returns : goal.returns
 returns c =
-    let given = Some c.figures-within.result in
+    let given = Some c.figures_within.result in
     let e : given ≡ answer c.args.self.now c.args.counts c.args.honest = search rules in
     record {
       answers = e;

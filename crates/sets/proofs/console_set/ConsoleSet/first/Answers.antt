@@ -5,13 +5,13 @@ use Rattle.sets.proofs.Bits.{within_from_lt}
 use Rattle.sets.proofs.Fronts.{lowest_is_trailing}
 use Rattle.sets.proofs.console_set.ConsoleSet.first.Goals as goal
 
-pub returns-then-is-empty : goal.returns-then-is-empty
+pub returns-then-is_empty : goal.returns-then-is_empty
 unfolding first_member
-returns-then-is-empty c = search rules
+returns-then-is_empty c = search rules
 
-pub returns-else-is-empty : goal.returns-else-is-empty
+pub returns-else-is_empty : goal.returns-else-is_empty
 unfolding first_member
-returns-else-is-empty c =
+returns-else-is_empty c =
     let m = c.args.self.mask in
     let fits : m < 2 ^ 32 = omega arith in
     let some : 0 < m = search rules in

@@ -9,7 +9,7 @@ use Rattle.sets.proofs.console_set.ConsoleSet.first_n.Goals as goal
 pub returns : goal.returns
 returns c =
     let n = c.args.n in
-    let all = c.digits-below.ensures in
+    let all = c.digits_below.ensures in
     record {
       set = search rules;
       members = λ k. ap (λ m. has m k) all ∙ has_first_mask n k;

@@ -5,8 +5,8 @@ use Rattle.sets.proofs.Laws.{counting_laws}
 use Rattle.sets.proofs.Sizes.{ones_count}
 use Rattle.sets.proofs.console_set.ConsoleSet.len.Goals as goal
 
-pub overflow-cast-result : goal.overflow-cast-result
-overflow-cast-result c = search (rules, ones-le 32)
+pub overflow_cast-result : goal.overflow_cast-result
+overflow_cast-result c = search (rules, ones-le 32)
 
 pub returns : goal.returns
 returns c =
