@@ -8,5 +8,5 @@ returns c =
     let caster = c.args.self.now in
     record {
       answered = search rules;
-      lowest = offered caster.plan caster.tables caster.good c.hand-next.result (search rules);
+      lowest = offered caster.plan caster.tables caster.good c.hand_next.result (search rules);
     }

@@ -8,4 +8,10 @@ invariant_of-self c =
     let vote = c.args.vote in
     let after = c.cast.new.self in
     let good = cast_keeps caster.plan caster.tables caster.good after vote.console vote.session vote.number c.requires c.cast.ensures in
-    (caster.known, (caster.entered, (caster.listed, (kept_count caster.plan after good, (good, tt)))))
+    record {
+      known = caster.known;
+      entered = caster.entered;
+      listed = caster.listed;
+      counted = kept_count caster.plan after good;
+      good = good;
+    }

@@ -9,4 +9,10 @@ invariant_of-self c =
     let caster = c.args.self.now in
     let after = c.hand.new.self in
     let good = event_keeps caster.plan caster.tables caster.good after (Hand (route_of c.args.route)) c.requires c.hand.ensures.left in
-    (caster.known, (caster.entered, (caster.listed, (kept_count caster.plan after good, (good, tt)))))
+    record {
+      known = caster.known;
+      entered = caster.entered;
+      listed = caster.listed;
+      counted = kept_count caster.plan after good;
+      good = good;
+    }

@@ -25,4 +25,4 @@ invariant_of-result c =
     let borne = verdict (Plain setting.deliver setting.forward setting.single) s.t s.d s.n None (sym c.requires.unbroken) in
     let sound =
     subst SoundPlan (sym c.requires.made) (made_sound s setting.deliver setting.forward setting.single drafted borne) in
-    (sound.few_consoles, (sound.few_sessions, (sound.few_numbers, (∣ sound ∣₁, tt))))
+    record { known = sound.few_consoles; entered = sound.few_sessions; listed = sound.few_numbers; sound = ∣ sound ∣₁ }

@@ -11,4 +11,10 @@ invariant_of-result c =
     let made = c.args.plan in
     let tables = c.args.tables in
     let good = ∥∥₁_map made.sound (λ sound. subst (Good made.plan) (sym c.requires) (new_good made.plan sound)) in
-    (made.known, (made.entered, (made.listed, (kept_count made.plan tables good, (good, tt)))))
+    record {
+      known = made.known;
+      entered = made.entered;
+      listed = made.listed;
+      counted = kept_count made.plan tables good;
+      good = good;
+    }
