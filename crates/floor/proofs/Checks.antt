@@ -1,13 +1,13 @@
 -- Of checks by rising number the lowest that finds something answers.
 use Rattle.std.proofs.Common.{◌≡◌, ◌≤◌, false, List, [], ◌∷◌, Some, None, Option, arith}
-use Rattle.std.specs.List.{AllByRecursion as All}
+use Rattle.std.specs.List.{AllByRecursion}
 use Rattle.std.proofs.ByRecursion.{All-weaker}
 use Rattle.std.proofs.lemmas.Bool.{cond_both, both_ways}
 use Rattle.floor.specs.declared.refusal.Refusal.{Refusal}
 use Rattle.floor.specs.Refusals.{Check, LowestAnswers, Least, Rising, first_found, number_of}
 
 -- every later check has a higher number
-later : (c : Check) (rest : List Check) → Rising (c ∷ rest) → All (λ d. number_of c.refusal ≤ number_of d.refusal) rest
+later : (c : Check) (rest : List Check) → Rising (c ∷ rest) → AllByRecursion (λ d. number_of c.refusal ≤ number_of d.refusal) rest
 later c [] r = tt
 later c (d ∷ rest) r =
     (omega (arith, r.0), All-weaker (λ e. number_of d.refusal ≤ number_of e.refusal) _ (λ e h. omega (arith, r.0)) rest (later d rest r.1))

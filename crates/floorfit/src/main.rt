@@ -6,6 +6,7 @@ use fitting::standard_fit;
 use floor::Refusal;
 use quorum::Counts;
 use std::env;
+use std::process::ExitCode;
 
 const USAGE: &str = "usage: floorfit N T D [N T D ..]
   N consoles (1 to 32), at most T of them Byzantine (0 to N), at most D copies of a message lost (0 to N)";
@@ -57,18 +58,18 @@ fn print_floor(rt: &HostRuntime, counts: Counts) -> anyhow::Result<()> {
     Ok(())
 }
 
-fn main(rt: HostRuntime) -> anyhow::Result<()> {
+fn main(rt: HostRuntime) -> anyhow::Result<ExitCode> {
     match read_floors(&rt) {
         Ok(floors) => {
             for counts in floors {
                 print_floor(&rt, counts)?;
             }
-            Ok(())
+            Ok(ExitCode::SUCCESS)
         }
         Err(error) => {
             eprintln!(rt; "floorfit: {error}")?;
             eprintln!(rt; "{USAGE}")?;
-            Err(error)
+            Ok(ExitCode::FAILURE)
         }
     }
 }

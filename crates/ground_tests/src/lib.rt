@@ -118,19 +118,19 @@ mod tests {
             !row.alike(&SessionResult {
                 metres: 2001,
                 ..row
-            },)
+            })
         );
         assert!(rt;
             !row.alike(&SessionResult {
                 tenths: 4211,
                 ..row
-            },)
+            })
         );
         assert!(rt;
             !row.alike(&SessionResult {
                 strokes: 222,
                 ..row
-            },)
+            })
         );
     }
 }

@@ -11,6 +11,7 @@ use crate::drain::time_a_drain;
 use crate::wave::play_a_wave;
 use anyhow::anyhow;
 use std::env;
+use std::process::ExitCode;
 
 const USAGE: &str = "usage: heat [drain]
   a wave on a floor of 8 consoles, move by move; with 'drain' how long 32 consoles take to hand over every copy in 16 sessions";
@@ -24,7 +25,7 @@ enum Mode {
 fn read_mode(rt: &HostRuntime) -> anyhow::Result<Mode> {
     let mut mode = Mode::Wave;
     for word in env::args(rt)?.skip(1) {
-        if word != "drain" {
+        if word.as_str() != "drain" {
             return Err(anyhow!(format!(in rt.alloc(); "'{word}' is not known")?));
         }
         mode = Mode::Drain;
@@ -32,14 +33,15 @@ fn read_mode(rt: &HostRuntime) -> anyhow::Result<Mode> {
     Ok(mode)
 }
 
-fn main(rt: HostRuntime) -> anyhow::Result<()> {
+fn main(rt: HostRuntime) -> anyhow::Result<ExitCode> {
     match read_mode(&rt) {
-        Ok(Mode::Wave) => play_a_wave(&rt),
-        Ok(Mode::Drain) => time_a_drain(&rt),
+        Ok(Mode::Wave) => play_a_wave(&rt)?,
+        Ok(Mode::Drain) => time_a_drain(&rt)?,
         Err(error) => {
             eprintln!(rt; "heat: {error}")?;
             eprintln!(rt; "{USAGE}")?;
-            Err(error)
+            return Ok(ExitCode::FAILURE);
         }
     }
+    Ok(ExitCode::SUCCESS)
 }

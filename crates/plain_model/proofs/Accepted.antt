@@ -1,7 +1,7 @@
 -- What is known of an event or a cast that no check turns away.
 use Rattle.std.proofs.Common.{◌≡◌, ℕ, ◌<◌, true, false, not, ◌||◌, List, None, ap, ◌∙◌, subst, arith}
 use Rattle.std.proofs.lemmas.Bool.{or_parts, leb-false, not-false}
-use Rattle.std.specs.List.{AllByRecursion as All}
+use Rattle.std.specs.List.{AllByRecursion}
 use Rattle.floor.proofs.Checks.{lowest_answers}
 use Rattle.floor.specs.Refusals.{Check, Rising, Least, first_found}
 use Rattle.caster.specs.Meanings.{cast_checks}
@@ -27,7 +27,7 @@ pub cast_rising : (p : Plan) (x : Tables) (c s v : ℕ) → Rising (cast_checks 
 cast_rising p x c s v = (omega arith, (omega arith, tt))
 
 -- Where nothing is found, each check finds nothing.
-all_passed : (checks : List Check) → Rising checks → first_found checks ≡ None → All (λ c. c.found ≡ false) checks
+all_passed : (checks : List Check) → Rising checks → first_found checks ≡ None → AllByRecursion (λ c. c.found ≡ false) checks
 all_passed checks rising none = subst (Least checks) none (lowest_answers checks rising)
 
 -- The numbers of an event are in range.
