@@ -1,5 +1,5 @@
 -- What the laws say of one state or one call can be had in one way only. So it follows also from an invariant that a type hides.
-use Rattle.std.proofs.Common.{◌≡◌, ℕ, true, false, is_some, Some, None, Option, sym, refl, ap}
+use Rattle.std.proofs.Common.{◌≡◌, ℕ, is_some, Some, None, Option, sym, refl, ap}
 use mathlib.Core.Bool.{Bool-set}
 use mathlib.Core.Logic.{∥∥₁_elim}
 use mathlib.Core.HLevel.{×_prop, Π_prop, hedberg}

@@ -1,5 +1,5 @@
 -- What is in order in a session stays so when the receiver of an endorsement tries to endorse the number itself.
-use Rattle.std.proofs.Common.{◌≡◌, ℕ, ◌<◌, ◌≤◌, true, false, ◌⊎◌, inl, inr, ⊎_elim, arith}
+use Rattle.std.proofs.Common.{◌≡◌, ℕ, ◌<◌, ◌≤◌, true, false, inl, inr, ⊎_elim, arith}
 use Rattle.std.proofs.lemmas.Bool.{and_parts, cases_Bool, cond_both, leb-true, le-leb}
 use Rattle.plain_session.specs.Protocol.{heard_count, may_endorse, forwarded}
 use Rattle.plain_session.specs.Sessions.{row_of}

@@ -1,5 +1,5 @@
 -- The plan of a draft whose thresholds keep their rules is sound.
-use Rattle.std.proofs.Common.{◌≡◌, ℕ, ◌-◌, ◌^◌, ◌<◌, ◌≤◌, Bool, true, false, ◌&&◌, ltb, length, is_some, Some, None, Option, sym, refl, ap, ◌∙◌, subst, arith}
+use Rattle.std.proofs.Common.{◌≡◌, ℕ, ◌^◌, ◌<◌, ◌≤◌, Bool, true, false, ◌&&◌, ltb, length, is_some, Some, None, Option, sym, refl, ap, ◌∙◌, subst, arith}
 use lib.Bits.{bit_and}
 use lib.Count.{ones}
 use Rattle.std.proofs.lemmas.Bool.{lt-ltb, true≢false}

@@ -4,7 +4,6 @@ use Rattle.std.proofs.lemmas.Bool.{and_parts}
 use Rattle.sets.proofs.Counts.{count_le, place_of_count}
 use Rattle.sets.proofs.Sums.{sum_mono, sum_const}
 use Rattle.sets.specs.Counting.{count}
-use Rattle.quorum.proofs.Waves.{positive}
 use Rattle.quorum.specs.declared.figures.Figures.{Figures}
 use Rattle.caster.specs.Floors.{honest, honestly}
 use Rattle.caster.specs.Laws.{Sound, Placed, OnlyCast}
@@ -12,7 +11,7 @@ use Rattle.caster.specs.Meanings.{is}
 use Rattle.plain_session.specs.Sessions.{row_of, cast_by, delivered_by}
 use Rattle.plain_session.specs.declared.row.Row.{Row}
 use Rattle.plain_session.specs.declared.session_table.SessionTable.{SessionTable}
-use Rattle.plain_tables.specs.Tables.{session_of, quiet}
+use Rattle.plain_tables.specs.Tables.{session_of}
 use Rattle.plain_tables.specs.declared.plan.Plan.{Plan}
 use Rattle.plain_tables.specs.declared.tables.Tables.{Tables}
 use Rattle.plain_model.specs.Invariant.{Good}
