@@ -5,7 +5,8 @@ usage: python3 tools/respell.py        at the top of the repository
 
 A name with hyphens gets an underscore for each, in .antt files and in the clauses and ghost items of .rt files, unless it
 is a name of the library or one that Rattle makes for a goal. Comments and strings stay. Names of the code have no hyphens,
-so none of them changes. Nothing is written where two names of one file would fall together.
+so none of them changes. Nothing is written where two names of one .antt file would fall together; in a .rt file a definition
+may have the name of the function whose answer it is.
 """
 
 import os

@@ -1,51 +1,71 @@
 // Prints what floors will bear, for each count of honest consoles that they may have.
 #![tactic(auto)]
 
-use anyhow::anyhow;
 use fitting::standard_fit;
 use floor::Refusal;
 use quorum::Counts;
-use std::env;
+use std::alloc::AllocError;
 use std::process::ExitCode;
+use std::{env, io};
+use thiserror::Error;
 
 const USAGE: &str = "usage: floorfit N T D [N T D ..]
   N consoles (1 to 32), at most T of them Byzantine (0 to N), at most D copies of a message lost (0 to N)";
 
-fn read_numbers(rt: &HostRuntime) -> anyhow::Result<Vec<usize>> {
+// Why the arguments name no floors.
+#[derive(Debug, Drop, Error)]
+enum ArgumentError {
+    #[error("'{0}' is no whole number")]
+    NoNumber(String),
+    #[error("a floor takes three numbers")]
+    NotThree,
+    #[error("floor {n} {t} {d} is refused with {}: {refusal}", .refusal.number())]
+    Refused {
+        n: usize,
+        t: usize,
+        d: usize,
+        refusal: Refusal,
+    },
+    #[error("no floor is given")]
+    NoFloor,
+    #[error(transparent)]
+    Input(#[from] io::Error),
+    #[error(transparent)]
+    Memory(#[from(alloc)] AllocError),
+}
+
+fn read_numbers(rt: &HostRuntime) -> Result<Vec<usize>, ArgumentError> {
     let mut numbers = Vec::new(rt.alloc());
     for word in env::args(rt)?.skip(1) {
         match word.parse::<usize>() {
             Ok(number) => numbers.push(number)?,
-            Err(_) => return Err(anyhow!(format!(in rt.alloc(); "'{word}' is no whole number")?)),
+            Err(_) => return Err(ArgumentError::NoNumber(word)),
         }
     }
     Ok(numbers)
 }
 
-fn read_floors(rt: &HostRuntime) -> anyhow::Result<Vec<Counts>> {
+fn read_floors(rt: &HostRuntime) -> Result<Vec<Counts>, ArgumentError> {
     let mut floors = Vec::new(rt.alloc());
     for numbers in read_numbers(rt)?.chunks(3) {
-        let [n, t, d] = numbers else {
-            return Err(anyhow!("a floor takes three numbers"));
+        let [n, t, d] = *numbers else {
+            return Err(ArgumentError::NotThree);
         };
-        match Counts::new(*n, *t, *d) {
+        match Counts::new(n, t, d) {
             Some(counts) => floors.push(counts)?,
             None => {
                 let refusal = Refusal::OutOfRange;
-                let number = refusal.number();
-                return Err(anyhow!(format!(in rt.alloc();
-                    "floor {n} {t} {d} is refused with {number}: {refusal}"
-                )?));
+                return Err(ArgumentError::Refused { n, t, d, refusal });
             }
         }
     }
     if floors.is_empty() {
-        return Err(anyhow!("no floor is given"));
+        return Err(ArgumentError::NoFloor);
     }
     Ok(floors)
 }
 
-fn print_floor(rt: &HostRuntime, counts: Counts) -> anyhow::Result<()> {
+fn print_floor(rt: &HostRuntime, counts: Counts) -> io::Result<()> {
     let consoles = counts.consoles();
     let byzantine = counts.max_byzantine();
     let lost = counts.max_lost();
@@ -58,7 +78,7 @@ fn print_floor(rt: &HostRuntime, counts: Counts) -> anyhow::Result<()> {
     Ok(())
 }
 
-fn main(rt: HostRuntime) -> anyhow::Result<ExitCode> {
+fn main(rt: HostRuntime) -> io::Result<ExitCode> {
     match read_floors(&rt) {
         Ok(floors) => {
             for counts in floors {

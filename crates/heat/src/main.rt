@@ -9,9 +9,9 @@ mod wave;
 
 use crate::drain::time_a_drain;
 use crate::wave::play_a_wave;
-use anyhow::anyhow;
-use std::env;
 use std::process::ExitCode;
+use std::{env, io};
+use thiserror::Error;
 
 const USAGE: &str = "usage: heat [drain]
   a wave on a floor of 8 consoles, move by move; with 'drain' how long 32 consoles take to hand over every copy in 16 sessions";
@@ -22,11 +22,20 @@ enum Mode {
     Drain,
 }
 
-fn read_mode(rt: &HostRuntime) -> anyhow::Result<Mode> {
+// Why the arguments name no mode.
+#[derive(Debug, Drop, Error)]
+enum ArgumentError {
+    #[error("'{0}' is not known")]
+    Unknown(String),
+    #[error(transparent)]
+    Input(#[from] io::Error),
+}
+
+fn read_mode(rt: &HostRuntime) -> Result<Mode, ArgumentError> {
     let mut mode = Mode::Wave;
     for word in env::args(rt)?.skip(1) {
         if word.as_str() != "drain" {
-            return Err(anyhow!(format!(in rt.alloc(); "'{word}' is not known")?));
+            return Err(ArgumentError::Unknown(word));
         }
         mode = Mode::Drain;
     }

@@ -34,7 +34,7 @@ impl Thresholds {
     pub fn broken(&self, counts: Counts) -> Option<Broken>
         ensures answers { result ≡ first_broken self.now counts.consoles counts.byzantine counts.lost }
         ensures means { Verdict self.now counts.consoles counts.byzantine counts.lost result }
-        ensures amplification { (RulesAmplify) × (Amplification) }
+        ensures amplification { RulesAmplify × Amplification }
     {
         let consoles = counts.consoles();
         for honest in consoles - counts.max_byzantine()..=consoles {
