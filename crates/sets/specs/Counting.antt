@@ -1,5 +1,5 @@
 -- Finite sums, and how many numbers below a bound satisfy a test.
-use Rattle.std.specs.Prelude.{◌≡◌, ℕ, zero, suc, ◌+◌, ◌-◌, ◌*◌, ◌<◌, ◌≤◌, Bool, true, false, cond}
+use Rattle.std.specs.Prelude.{◌≡◌, ℕ, zero, suc, ◌+◌, ◌-◌, ◌*◌, ◌<◌, ◌≤◌, Bool, true, false, if◌then◌else◌}
 
 -- f 0 + .. + f (n - 1)
 unfoldable pub sum : ℕ → (ℕ → ℕ) → ℕ
@@ -8,7 +8,7 @@ sum (suc n) f = sum n f + f n
 
 -- how many k below n satisfy p
 unfoldable pub count : ℕ → (ℕ → Bool) → ℕ
-count n p = sum n (λ k. cond (p k) 1 0)
+count n p = sum n (λ k. if p k then 1 else 0)
 
 -- What quorum arguments rest on, for sums and counts of any length.
 pub record CountingLaws : Type 0 where

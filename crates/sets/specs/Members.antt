@@ -1,5 +1,5 @@
 -- Sets of consoles as masks: console k is a member where digit k of the mask is set.
-use Rattle.std.specs.Prelude.{◌≡◌, ℕ, zero, suc, ◌+◌, ◌-◌, ◌/◌, ◌%◌, ◌^◌, ◌<◌, min, Bool, true, false, cond, not, ◌&&◌, Some, None, Option, MatchOption, ◌==◌, bit_and, bit_or, count_ones, nat_lt}
+use Rattle.std.specs.Prelude.{◌≡◌, ℕ, zero, suc, ◌+◌, ◌-◌, ◌/◌, ◌%◌, ◌^◌, ◌<◌, min, Bool, true, false, if◌then◌else◌, not, ◌&&◌, Some, None, Option, MatchOption, ◌==◌, bit_and, bit_or, count_ones, nat_lt}
 use Rattle.std.specs.Int.Count.{count_trailing_zeros}
 use Rattle.sets.specs.declared.console_set.ConsoleSet.{ConsoleSet}
 
@@ -24,7 +24,7 @@ Lowest m k = (has m k ≡ true) × ((j : ℕ) → j < k → has m j ≡ false)
 
 -- the digit of console k, if there is such a console
 abbrev pub digit_of : ℕ → ℕ
-digit_of k = cond (nat_lt k 32) (2 ^ k) 0
+digit_of k = if nat_lt k 32 then 2 ^ k else 0
 
 -- console k joins m
 unfoldable pub with_member : ℕ → ℕ → ℕ
@@ -44,7 +44,7 @@ subset a b = bit_and a b == a
 
 -- the lowest member of m, if it has one
 unfoldable pub first_member : ℕ → Option ℕ
-first_member m = cond (m == 0) None (Some (count_trailing_zeros 32 m))
+first_member m = if m == 0 then None else Some (count_trailing_zeros 32 m)
 
 -- ---- the same on sets
 

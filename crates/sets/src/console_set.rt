@@ -1,5 +1,5 @@
 // A set of consoles, held as a mask.
-ghost use Rattle.std.specs.Prelude.{◌≡◌, ℕ, ◌+◌, ◌*◌, ◌<◌, ◌≤◌, min, true, false, not, ◌&&◌, ◌||◌, Decides, MatchOption, ◌==◌, bit_and, count_ones, nat_lt};
+ghost use Rattle.std.specs.Prelude.{◌≡◌, ℕ, ◌+◌, ◌*◌, ◌<◌, ◌≤◌, min, true, false, not, ◌&&◌, ◌||◌, ◌↔◌, IsTrue, MatchOption, ◌==◌, bit_and, count_ones, nat_lt};
 ghost use Rattle.sets.specs.Counting.{CountingLaws, count};
 ghost use Rattle.sets.specs.Members.{has, digit_of, Within, Lowest, subset, first_mask, first_member, empty_set, first_consoles, with_console, without_console, union_set, intersection_set, difference_set};
 
@@ -116,7 +116,7 @@ impl ConsoleSet {
 
     pub fn is_subset(self, other: ConsoleSet) -> bool
         ensures answer { result ≡ subset self.mask other.mask }
-        ensures members { Decides result ((k : ℕ) → has self.mask k ≡ true → has other.mask k ≡ true) }
+        ensures members { IsTrue result ↔ ((k : ℕ) → has self.mask k ≡ true → has other.mask k ≡ true) }
         ensures size { result ≡ true → count_ones self.mask ≤ count_ones other.mask }
         ensures whole { result ≡ true → count_ones other.mask ≤ count_ones self.mask → self ≡ other }
     {
@@ -125,8 +125,8 @@ impl ConsoleSet {
 
     pub fn is_empty(self) -> bool
         ensures answer { result ≡ (self.mask == 0) }
-        ensures members { Decides result ((k : ℕ) → has self.mask k ≡ false) }
-        ensures size { Decides result (count_ones self.mask ≡ 0) }
+        ensures members { IsTrue result ↔ ((k : ℕ) → has self.mask k ≡ false) }
+        ensures size { IsTrue result ↔ (count_ones self.mask ≡ 0) }
     {
         self.mask == 0
     }
