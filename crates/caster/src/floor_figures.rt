@@ -1,14 +1,13 @@
 // The floor that a caster serves.
 ghost use Rattle.std.specs.Prelude.{◌≡◌};
-ghost use Rattle.floor.specs.Drafts.{state_of};
-ghost use Rattle.caster.specs.Floors.{floor_of, honest, honest_consoles};
+ghost use Rattle.caster.specs.Floors.{honest_consoles};
 
 use floor::Draft;
 use sets::ConsoleSet;
 
-// How many consoles there are, which are Byzantine, how many sessions, how many payloads may be listed, and how many copies of a
-// message may be lost.
-#[derive(Clone, Copy, PartialEq)]
+/// How many consoles there are, which are Byzantine, how many sessions, how many payloads may be listed, and how many copies of a
+/// message may be lost.
+#[derive(Clone, Copy, PartialEq, Eq, Debug)]
 pub struct FloorFigures {
     pub consoles: usize,
     pub byzantine: ConsoleSet,
@@ -17,21 +16,24 @@ pub struct FloorFigures {
     pub lost: usize,
 }
 
-impl FloorFigures {
-    pub fn of(draft: &Draft) -> FloorFigures
-        ensures { result ≡ floor_of (state_of draft.now) }
-    {
-        let counts = draft.counts();
+impl From<&Draft> for FloorFigures {
+    ghost use Rattle.caster.specs.Floors.{IsFloorOf};
+
+    ghost from_gives = { λ draft floor. IsFloorOf draft.now floor };
+
+    fn from(draft: &Draft) -> FloorFigures {
         FloorFigures {
-            consoles: counts.consoles(),
+            consoles: draft.counts().consoles(),
             byzantine: draft.byzantine(),
             sessions: draft.session_count(),
             capacity: draft.capacity(),
-            lost: counts.max_lost(),
+            lost: draft.counts().max_lost(),
         }
     }
+}
 
-    // The honest consoles.
+impl FloorFigures {
+    /// The honest consoles.
     pub fn honest(self) -> ConsoleSet
         ensures { result ≡ honest_consoles self }
     {

@@ -9,9 +9,9 @@ use crate::floor_figures::FloorFigures;
 use floor::Refusal;
 use quorum::Figures;
 
-// A caster carries payload numbers between the honest consoles of one floor.
+/// A caster carries payload numbers between the honest consoles of one floor.
 pub trait Caster {
-    // What may happen on the way: each caster has its own kind.
+    /// What may happen on the way: each caster has its own kind.
     type Event;
 
     ghost meaning: { Self → Meaning };
@@ -32,7 +32,8 @@ pub trait Caster {
 
     ghost lasting: { Lasting loan };
 
-    // The console casts the number in the session.
+    /// The console casts the number in the session.
+    // The three stay apart here, and the two of a question: a struct would be built for the one call.
     fn cast(
         &mut self,
         console: usize,
@@ -43,20 +44,20 @@ pub trait Caster {
         ensures rising { Rising (cast_checks (meaning self.old) console session number) }
         ensures lent { loan self.old self.new };
 
-    // The event happens.
+    /// The event happens.
     fn step(&mut self, event: Self::Event) -> Result<Option<Delivery>, Refusal>
         ensures stepped { stepped self.old event result self.new }
         ensures lent { loan self.old self.new };
 
-    // The event that hands over some copy under way, if there is one.
+    /// The event that hands over some copy under way, if there is one.
     fn offer(&self) -> Option<Self::Event>
         ensures { result ≡ offered self.now };
 
-    // What the console has cast in the session.
+    /// What the console has cast in the session.
     fn cast_at(&self, console: usize, session: usize) -> Result<Option<usize>, Refusal>
         ensures { result ≡ cast_question (meaning self.now) console session };
 
-    // What the console has delivered in the session.
+    /// What the console has delivered in the session.
     fn delivered_at(&self, console: usize, session: usize) -> Result<Option<usize>, Refusal>
         ensures { result ≡ delivery_question (meaning self.now) console session };
 

@@ -4,9 +4,10 @@ use Rattle.std.specs.Option.{option_map}
 use Rattle.quorum.specs.declared.figures.Figures.{Figures}
 use Rattle.quorum.specs.declared.rules.Broken.{Broken}
 use Rattle.quorum.specs.declared.thresholds.Thresholds.{Thresholds}
-use Rattle.quorum.specs.Figures.{figures_of}
+use Rattle.quorum.specs.declared.thresholds.Thresholds.TheVariants.{Plain}
+use Rattle.quorum.specs.Figures.{bears, figures_of}
 use Rattle.quorum.specs.Fit.{Fits, misfit_of}
-use Rattle.quorum.specs.Rules.{Borne, first_broken}
+use Rattle.quorum.specs.Rules.{Borne}
 use Rattle.quorum.specs.Standard.{standard_echo, standard_ready}
 use Rattle.floor.specs.declared.refusal.Refusal.{Refusal}
 use Rattle.floor.specs.declared.refusal.Refusal.TheVariants.{OutOfRange, ThresholdRule, CastersMisfit}
@@ -23,7 +24,7 @@ refusal_of (Pair misfit) = CastersMisfit
 
 -- a caster has figures if it breaks no rule
 abbrev pub caster_fit : Thresholds → (n t d h : ℕ) → CasterFit
-caster_fit q n t d h = record { thresholds = q; figures = answer (first_broken q n t d) (figures_of q n t d h) }
+caster_fit q n t d h = record { thresholds = q; figures = bears q n t d h }
 
 -- the echo caster is made first, then the ready caster, and then the two are held against each other
 abbrev pub obstacle_of : Result Figures Broken → Result Figures Broken → (d h : ℕ) → Option Obstacle
@@ -32,10 +33,10 @@ obstacle_of (Ok echo) (Err broken) d h = Some (Ready broken)
 obstacle_of (Ok echo) (Ok ready) d h = option_map Pair (misfit_of echo ready d h)
 
 abbrev pub echo_fit : (n t d h : ℕ) → CasterFit
-echo_fit n t d h = caster_fit (standard_echo n t) n t d h
+echo_fit n t d h = caster_fit (Plain (standard_echo n t)) n t d h
 
 abbrev pub ready_fit : (n t d h : ℕ) → CasterFit
-ready_fit n t d h = caster_fit (standard_ready t d) n t d h
+ready_fit n t d h = caster_fit (Plain (standard_ready t d)) n t d h
 
 abbrev pub standard_obstacle : (n t d h : ℕ) → Option Obstacle
 standard_obstacle n t d h = obstacle_of (echo_fit n t d h).figures (ready_fit n t d h).figures d h
@@ -48,9 +49,9 @@ standard_fit_of n t d h =
 
 -- the floor opens: both casters keep every rule at each count of honest consoles, and their figures fit at h
 pub record Opens (n t d h : ℕ) : Type 0 where
-  pub echo_made : Borne (standard_echo n t) n t d
-  pub ready_made : Borne (standard_ready t d) n t d
-  pub fits : Fits (figures_of (standard_echo n t) n t d h) (figures_of (standard_ready t d) n t d h) d h
+  pub echo_made : Borne (Plain (standard_echo n t)) n t d
+  pub ready_made : Borne (Plain (standard_ready t d)) n t d
+  pub fits : Fits (figures_of (Plain (standard_echo n t)) n t d h) (figures_of (Plain (standard_ready t d)) n t d h) d h
 
 -- no obstacle stands in the way exactly if the floor opens
 abbrev pub Opening : (n t d h : ℕ) → StandardFit → Type 0

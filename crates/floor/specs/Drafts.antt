@@ -1,16 +1,15 @@
 -- What a draft holds, what each call answers, and what it leaves. docs/model.md has the rules in words.
-use Rattle.std.specs.Prelude.{ℕ, ◌-◌, Bool, ◌||◌, List, [], ◌∷◌, ◌++◌, length, Ok, Err, Option, Result, count_ones, nat_le, nat_lt}
+use Rattle.std.specs.Prelude.{ℕ, ◌-◌, ◌^◌, ◌<◌, ◌≤◌, Bool, ◌||◌, List, [], ◌∷◌, ◌++◌, length, Option, Result, count_ones, nat_le, nat_lt}
 use Rattle.std.specs.Option.{ok_or}
 use Rattle.std.specs.List.{slice_get}
-use Rattle.sets.specs.Members.{has, with_console}
+use Rattle.quorum.specs.declared.counts.Counts.{Counts}
+use Rattle.sets.specs.Members.{has, with_console, empty_set}
 use Rattle.sets.specs.declared.console_set.ConsoleSet.{ConsoleSet}
-use Rattle.floor.specs.declared.draft.Draft.{Draft}
 use Rattle.floor.specs.declared.session.Session.{Session}
-use Rattle.floor.specs.declared.draft.DraftPlan.{DraftPlan}
 use Rattle.floor.specs.declared.refusal.Refusal.{Refusal}
 use Rattle.floor.specs.declared.refusal.Refusal.TheVariants.{OutOfRange, WrongHonesty, SessionTwice, ByzantineFull, SessionsFull}
 use Rattle.floor.specs.Refusals.{Check, check, first_found, answer, after}
-use Rattle.floor.specs.Sessions.{entries, listed}
+use Rattle.floor.specs.Sessions.{Orderly, listed}
 
 -- n consoles, at most t Byzantine, at most d copies of a message lost, at most so many payloads, the Byzantine consoles, the sessions
 pub record DraftState : Type 0 where
@@ -21,22 +20,36 @@ pub record DraftState : Type 0 where
   pub byzantine : ConsoleSet
   pub sessions : List Session
 
-abbrev pub state_of : Draft → DraftState
-state_of x = record {
-  n = x.counts.consoles;
-  t = x.counts.byzantine;
-  d = x.counts.lost;
-  capacity = x.capacity;
-  byzantine = x.marked;
-  sessions = entries x.sessions;
+-- the state that these make up
+abbrev pub state_of : Counts → ℕ → ConsoleSet → List Session → DraftState
+state_of counts capacity byzantine sessions = record {
+  n = counts.consoles;
+  t = counts.byzantine;
+  d = counts.lost;
+  capacity = capacity;
+  byzantine = byzantine;
+  sessions = sessions;
 }
+
+-- a floor may list 1 to 8 payloads
+pub record IsCapacity (capacity : ℕ) : Type 0 where
+  pub some : 1 ≤ capacity
+  pub few : capacity ≤ 8
+
+-- the Byzantine consoles are of the floor, and no more than may be
+pub record IsTolerated (n t : ℕ) (byzantine : ConsoleSet) : Type 0 where
+  pub within : byzantine.mask < 2 ^ n
+  pub tolerated : count_ones byzantine.mask ≤ t
+
+-- what every draft keeps
+pub record IsSound (s : DraftState) : Type 0 where
+  pub capacity : IsCapacity s.capacity
+  pub byzantine : IsTolerated s.n s.t s.byzantine
+  pub sessions : Orderly s.n s.sessions
 
 -- nothing marked and nothing entered
 abbrev pub new_draft : ℕ → ℕ → ℕ → ℕ → DraftState
-new_draft n t d v = record { n = n; t = t; d = d; capacity = v; byzantine = record { mask = 0 }; sessions = [] }
-
-abbrev pub plan_of : DraftPlan → DraftState
-plan_of p = new_draft p.counts.consoles p.counts.byzantine p.counts.lost p.capacity
+new_draft n t d v = record { n = n; t = t; d = d; capacity = v; byzantine = empty_set; sessions = [] }
 
 abbrev pub outside : (low high x : ℕ) → Bool
 outside low high x = nat_lt x low || nat_lt high x
@@ -47,11 +60,6 @@ plan_refusal n t d v = first_found (check (outside 1 32 n || (outside 0 n t || (
 abbrev pub plan_answer : ℕ → ℕ → ℕ → ℕ → Result DraftState Refusal
 plan_answer n t d v = answer (plan_refusal n t d v) (new_draft n t d v)
 
--- a plan by the draft that it makes
-abbrev pub planned : Result DraftPlan Refusal → Result DraftState Refusal
-planned (Ok p) = Ok (plan_of p)
-planned (Err e) = Err e
-
 abbrev pub mark_checks : DraftState → ℕ → List Check
 mark_checks s console =
     check (nat_le s.n console) OutOfRange
@@ -60,7 +68,7 @@ mark_checks s console =
     ∷ []
 
 abbrev pub marked : DraftState → ℕ → DraftState
-marked s console = record { n = s.n; t = s.t; d = s.d; capacity = s.capacity; byzantine = with_console s.byzantine console; sessions = s.sessions }
+marked s console = record s { byzantine = with_console s.byzantine console }
 
 abbrev pub mark_answer : DraftState → ℕ → Result (Unit {0}) Refusal
 mark_answer s console = answer (first_found (mark_checks s console)) tt
@@ -77,14 +85,7 @@ enter_checks s owner sequence =
 
 -- the new session stands last
 abbrev pub entered_session : DraftState → ℕ → ℕ → DraftState
-entered_session s owner sequence = record {
-  n = s.n;
-  t = s.t;
-  d = s.d;
-  capacity = s.capacity;
-  byzantine = s.byzantine;
-  sessions = s.sessions ++ (record { owner = owner; sequence = sequence } ∷ []);
-}
+entered_session s owner sequence = record s { sessions = s.sessions ++ (record { owner = owner; sequence = sequence } ∷ []) }
 
 -- a session is answered by its number
 abbrev pub enter_answer : DraftState → ℕ → ℕ → Result ℕ Refusal

@@ -1,6 +1,5 @@
 -- The numbers of the refusals. docs/model.md says when each is answered.
-use Rattle.std.specs.Prelude.{◌≡◌, ℕ, ◌<◌, ◌≤◌, Bool, true, false, cond, List, [], ◌∷◌, Some, None, Ok, Err, Option, Result}
-use Rattle.std.specs.List.{AllByRecursion}
+use Rattle.std.specs.Prelude.{◌≡◌, ℕ, ◌<◌, ◌≤◌, Bool, true, false, if◌then◌else◌, List, All, [], ◌∷◌, Some, None, Ok, Err, Option, Result}
 use Rattle.floor.specs.declared.refusal.Refusal.{Refusal}
 use Rattle.floor.specs.declared.refusal.Refusal.TheVariants.{OutOfRange, WrongHonesty, SessionTwice, ThresholdRule, TooFewPlaces, NotAPermutation, ForgedSignature, OtherFloor, ByzantineFull, SessionsFull, PayloadsFull, AlreadyCast, NoSuchCopy, LossesUsed, NothingNew, CastersMisfit, NothingWaiting, Disagreement}
 
@@ -39,7 +38,7 @@ check found refusal = record { found = found; refusal = refusal }
 -- checks run one after the other, and the first that finds something answers
 abbrev pub first_found : List Check → Option Refusal
 first_found [] = None
-first_found (c ∷ rest) = cond c.found (Some c.refusal) (first_found rest)
+first_found (c ∷ rest) = if c.found then Some c.refusal else first_found rest
 
 -- the checks stand by rising number
 abbrev pub Rising : List Check → Type 0
@@ -49,8 +48,8 @@ Rising (c ∷ d ∷ rest) = (number_of c.refusal < number_of d.refusal) × Risin
 
 -- no check that finds something has a lower number than the answer
 abbrev pub Least : List Check → Option Refusal → Type 0
-Least checks None = AllByRecursion (λ c. c.found ≡ false) checks
-Least checks (Some answer) = AllByRecursion (λ c. c.found ≡ true → number_of answer ≤ number_of c.refusal) checks
+Least checks None = All (λ c. c.found ≡ false) checks
+Least checks (Some answer) = All (λ c. c.found ≡ true → number_of answer ≤ number_of c.refusal) checks
 
 -- of checks by rising number the lowest that finds something answers
 abbrev pub LowestAnswers : Type 0

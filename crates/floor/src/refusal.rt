@@ -2,76 +2,59 @@
 ghost use Rattle.std.specs.Prelude.{◌≡◌};
 ghost use Rattle.floor.specs.Refusals.{LowestAnswers, NumberedApart, number_of};
 
-use std::error::Error;
-use std::fmt;
+use thiserror::Error;
 
-// The numbers are part of the interface; some are not in use.
-#[derive(Clone, Copy, PartialEq, Eq, Debug)]
+mod found;
+
+/// The numbers are part of the interface; some are not in use.
+#[derive(Clone, Copy, PartialEq, Eq, Debug, Error)]
 pub enum Refusal {
+    #[error("a number is outside its range")]
     OutOfRange = 1,
+    #[error("an honest console stands where a Byzantine one must, or the reverse")]
     WrongHonesty = 2,
+    #[error("the session is entered already")]
     SessionTwice = 3,
+    #[error("the thresholds break a rule")]
     ThresholdRule = 4,
+    #[error("too few places are supplied")]
     TooFewPlaces = 5,
+    #[error("the list does not name each place once")]
     NotAPermutation = 6,
+    #[error("the bundle bears an honest signature that was never made")]
     ForgedSignature = 7,
+    #[error("the receipt is of another floor")]
     OtherFloor = 9,
+    #[error("as many Byzantine consoles as allowed are marked")]
     ByzantineFull = 21,
+    #[error("as many sessions as allowed are entered")]
     SessionsFull = 22,
+    #[error("the payload list is full")]
     PayloadsFull = 23,
+    #[error("a number was cast or broadcast there already")]
     AlreadyCast = 24,
+    #[error("no such copy is under way")]
     NoSuchCopy = 25,
+    #[error("as many copies of the message as allowed are lost")]
     LossesUsed = 26,
+    #[error("the message holds nothing new to the receiver")]
     NothingNew = 27,
+    #[error("the casters do not fit")]
     CastersMisfit = 28,
+    #[error("nothing waits there")]
     NothingWaiting = 29,
+    #[error("two honest consoles delivered different numbers")]
     Disagreement = 30,
 }
 
 impl Refusal {
+    // A method and no `From`: callers ask for the number by name, and its clauses hold two theorems beside it.
+    #[tactic(auto, using(crate::proofs::Checks::lowest_answers))]
     pub fn number(self) -> u8
         ensures value { result ≡ number_of self }
         ensures apart { NumberedApart }
         ensures lowest { LowestAnswers }
     {
-        self.discriminant()
-    }
-
-    fn discriminant(self) -> u8
-        ensures { result ≡ number_of self }
-    {
         self as u8
     }
-
-    fn sentence(self) -> &'static str {
-        match self {
-            Refusal::OutOfRange => "a number is outside its range",
-            Refusal::WrongHonesty =>
-                "an honest console stands where a Byzantine one must, or the reverse",
-            Refusal::SessionTwice => "the session is entered already",
-            Refusal::ThresholdRule => "the thresholds break a rule",
-            Refusal::TooFewPlaces => "too few places are supplied",
-            Refusal::NotAPermutation => "the list does not name each place once",
-            Refusal::ForgedSignature => "the bundle bears an honest signature that was never made",
-            Refusal::OtherFloor => "the receipt is of another floor",
-            Refusal::ByzantineFull => "as many Byzantine consoles as allowed are marked",
-            Refusal::SessionsFull => "as many sessions as allowed are entered",
-            Refusal::PayloadsFull => "the payload list is full",
-            Refusal::AlreadyCast => "a number was cast or broadcast there already",
-            Refusal::NoSuchCopy => "no such copy is under way",
-            Refusal::LossesUsed => "as many copies of the message as allowed are lost",
-            Refusal::NothingNew => "the message holds nothing new to the receiver",
-            Refusal::CastersMisfit => "the casters do not fit",
-            Refusal::NothingWaiting => "nothing waits there",
-            Refusal::Disagreement => "two honest consoles delivered different numbers",
-        }
-    }
 }
-
-impl fmt::Display for Refusal {
-    fn fmt<W: fmt::Write>(&self, f: &mut fmt::Formatter<W>) -> fmt::Result {
-        f.write_str(self.sentence())
-    }
-}
-
-impl Error for Refusal {}

@@ -1,5 +1,5 @@
 // The result of a session at a rowing or cycling console.
-ghost use Rattle.std.specs.Prelude.{◌≡◌, Decides};
+ghost use Rattle.std.specs.Prelude.{◌≡◌, ◌↔◌, IsTrue};
 ghost use Rattle.floor.specs.Payloads.{same_result, same_result_equivalence};
 
 use crate::payload::Payload;
@@ -19,8 +19,8 @@ impl Payload for SessionResult {
 
     fn alike(&self, other: &SessionResult) -> bool
         ensures tested { result ≡ same_result self.now other.now }
-        ensures equal { Decides result (self.now ≡ other.now) }
+        ensures equal { IsTrue result ↔ (self.now ≡ other.now) }
     {
-        self.metres == other.metres && self.tenths == other.tenths && self.strokes == other.strokes
+        self == other
     }
 }

@@ -34,43 +34,32 @@ enum ArgumentError {
     Memory(#[from(alloc)] AllocError),
 }
 
-fn read_numbers(rt: &HostRuntime) -> Result<Vec<usize>, ArgumentError> {
-    let mut numbers = Vec::new(rt.alloc());
-    for word in env::args(rt)?.skip(1) {
-        match word.parse::<usize>() {
-            Ok(number) => numbers.push(number)?,
-            Err(_) => return Err(ArgumentError::NoNumber(word)),
-        }
-    }
-    Ok(numbers)
+fn read_number(word: String) -> Result<usize, ArgumentError> {
+    word.parse::<usize>()
+        .map_err(|_| ArgumentError::NoNumber(word))
+}
+
+fn read_floor(numbers: &[usize]) -> Result<Counts, ArgumentError> {
+    let [n, t, d] = *numbers else {
+        return Err(ArgumentError::NotThree);
+    };
+    let refusal = Refusal::OutOfRange;
+    Counts::new(n, t, d).ok_or(ArgumentError::Refused { n, t, d, refusal })
 }
 
 fn read_floors(rt: &HostRuntime) -> Result<Vec<Counts>, ArgumentError> {
-    let mut floors = Vec::new(rt.alloc());
-    for numbers in read_numbers(rt)?.chunks(3) {
-        let [n, t, d] = *numbers else {
-            return Err(ArgumentError::NotThree);
-        };
-        match Counts::new(n, t, d) {
-            Some(counts) => floors.push(counts)?,
-            None => {
-                let refusal = Refusal::OutOfRange;
-                return Err(ArgumentError::Refused { n, t, d, refusal });
-            }
-        }
-    }
-    if floors.is_empty() {
+    let words = env::args(rt)?.skip(1);
+    let numbers: Vec<usize> = words.map(read_number).try_collect(rt.alloc())?;
+    if numbers.is_empty() {
         return Err(ArgumentError::NoFloor);
     }
-    Ok(floors)
+    numbers.chunks(3).map(read_floor).try_collect(rt.alloc())
 }
 
 fn print_floor(rt: &HostRuntime, counts: Counts) -> io::Result<()> {
+    println!(rt; "{counts}")?;
     let consoles = counts.consoles();
-    let byzantine = counts.max_byzantine();
-    let lost = counts.max_lost();
-    println!(rt; "n {consoles} t {byzantine} d {lost}")?;
-    for honest in consoles - byzantine..=consoles {
+    for honest in consoles - counts.max_byzantine()..=consoles {
         if let Ok(fit) = standard_fit(counts, honest) {
             println!(rt; "{fit}")?;
         }
@@ -78,6 +67,7 @@ fn print_floor(rt: &HostRuntime, counts: Counts) -> io::Result<()> {
     Ok(())
 }
 
+// As heat does: each program tells of its own arguments, and no crate is about arguments.
 fn main(rt: HostRuntime) -> io::Result<ExitCode> {
     match read_floors(&rt) {
         Ok(floors) => {

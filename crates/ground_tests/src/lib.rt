@@ -3,27 +3,14 @@
 
 #[cfg(test)]
 mod tests {
-    use floor::{Card, Draft, DraftPlan, Payload, Refusal, Session, SessionResult};
+    use floor::{Card, Draft, Payload, Refusal, Session, SessionResult};
     use sets::ConsoleSet;
     use std::test::Fail;
 
     #[test]
     fn a_walk_through_a_set_goes_upward(rt: HostRuntime) {
-        let mut walked = [0; 3];
-        let mut steps = 0;
-        for console in ConsoleSet::empty().with(31).with(7).with(32).with(12) {
-            assert!(rt; steps < walked.len());
-            walked[steps] = console;
-            steps += 1;
-        }
-        assert_eq!(rt; walked, [7, 12, 31]);
-    }
-
-    fn refusal_of(plan: Result<DraftPlan, Refusal>) -> Option<Refusal> {
-        match plan {
-            Ok(_) => None,
-            Err(refusal) => Some(refusal),
-        }
+        let consoles = ConsoleSet::empty().with(31).with(7).with(32).with(12);
+        assert!(rt; consoles.into_iter().eq([7, 12, 31]));
     }
 
     fn draft(consoles: usize, byzantine: usize) -> Result<Draft, Refusal> {
@@ -32,17 +19,20 @@ mod tests {
 
     #[test]
     fn plans_within_the_limits_are_answered(rt: HostRuntime) {
-        for limits in [[1, 0, 0, 1], [1, 1, 1, 8], [32, 0, 0, 8], [32, 32, 32, 1]] {
-            assert_eq!(rt;
-                refusal_of(Draft::plan(limits[0], limits[1], limits[2], limits[3])),
-                None
-            );
+        for [consoles, byzantine, lost, capacity] in [
+            [1, 0, 0, 1],
+            [1, 1, 1, 8],
+            [32, 0, 0, 8],
+            [32, 32, 32, 1],
+        ] {
+            let plan = Draft::plan(consoles, byzantine, lost, capacity);
+            assert_eq!(rt; plan.err(), None);
         }
     }
 
     #[test]
     fn plans_one_beyond_a_limit_are_refused(rt: HostRuntime) {
-        for beyond in [
+        for [consoles, byzantine, lost, capacity] in [
             [0, 0, 0, 1],
             [33, 0, 0, 1],
             [4, 5, 0, 1],
@@ -50,8 +40,8 @@ mod tests {
             [4, 0, 0, 0],
             [4, 0, 0, 9],
         ] {
-            let plan = Draft::plan(beyond[0], beyond[1], beyond[2], beyond[3]);
-            assert_eq!(rt; refusal_of(plan), Some(Refusal::OutOfRange));
+            let plan = Draft::plan(consoles, byzantine, lost, capacity);
+            assert_eq!(rt; plan.err(), Some(Refusal::OutOfRange));
         }
     }
 
@@ -97,11 +87,11 @@ mod tests {
     fn a_card_has_1_to_16_bytes(rt: HostRuntime) -> Result<(), Fail> {
         let bytes = b"seventeen bytes!!";
         for len in 0..18 {
-            let made = Card::plan(&bytes[0..len]).is_ok();
-            assert_eq!(rt; made, 1 <= len && len <= 16);
+            let made = Card::plan(&bytes[..len]).is_ok();
+            assert_eq!(rt; made, (1..=16).contains(&len));
         }
-        let whole = Card::new(Card::plan(&bytes[0..16])?);
-        let short = Card::new(Card::plan(&bytes[0..15])?);
+        let whole = Card::new(Card::plan(&bytes[..16])?);
+        let short = Card::new(Card::plan(&bytes[..15])?);
         assert!(rt; whole.alike(&whole) && !whole.alike(&short));
         Ok(())
     }
@@ -114,23 +104,21 @@ mod tests {
             strokes: 221,
         };
         assert!(rt; row.alike(&row));
-        assert!(rt;
-            !row.alike(&SessionResult {
+        for other in [
+            SessionResult {
                 metres: 2001,
                 ..row
-            })
-        );
-        assert!(rt;
-            !row.alike(&SessionResult {
+            },
+            SessionResult {
                 tenths: 4211,
                 ..row
-            })
-        );
-        assert!(rt;
-            !row.alike(&SessionResult {
+            },
+            SessionResult {
                 strokes: 222,
                 ..row
-            })
-        );
+            },
+        ] {
+            assert!(rt; !row.alike(&other));
+        }
     }
 }

@@ -6,7 +6,7 @@ use quorum::Figures;
 use std::fmt;
 
 // How many honest consoles have a number, and how many have another one.
-#[derive(Clone, Copy)]
+#[derive(Clone, Copy, Default)]
 struct Tally {
     same: usize,
     other: usize,
@@ -15,25 +15,21 @@ struct Tally {
 impl Tally {
     // The tally with what one more console has.
     fn and(self, number: usize, found: Option<usize>) -> Tally {
-        let Tally { same, other } = self;
         match found {
             None => self,
-            Some(found) => if found == number {
-                Tally {
-                    same: same.saturating_add(1),
-                    other,
-                }
-            } else {
-                Tally {
-                    same,
-                    other: other.saturating_add(1),
-                }
+            Some(found) if found == number => Tally {
+                same: self.same.saturating_add(1),
+                ..self
+            },
+            Some(_) => Tally {
+                other: self.other.saturating_add(1),
+                ..self
             },
         }
     }
 }
 
-// What has become of a number in a session.
+/// What has become of a number in a session.
 #[derive(Clone, Copy)]
 pub struct Closing {
     number: usize,
@@ -45,9 +41,11 @@ pub struct Closing {
 }
 
 impl Closing {
+    // A session and a number, which nothing else here takes together.
     pub fn of(caster: &PlainCaster, session: usize, number: usize) -> Result<Closing, Refusal> {
-        let mut casts = Tally { same: 0, other: 0 };
-        let mut deliveries = casts;
+        // A `for`, since a fold would carry both tallies through each `?`.
+        let mut casts = Tally::default();
+        let mut deliveries = Tally::default();
         for console in caster.floor().honest() {
             casts = casts.and(number, caster.cast_at(console, session)?);
             deliveries = deliveries.and(number, caster.delivered_at(console, session)?);
@@ -63,37 +61,43 @@ impl Closing {
     }
 }
 
+// Two words, which a function shared with the figures' own text would say no plainer.
 fn yes(answer: bool) -> &'static str {
     if answer { "yes" } else { "no" }
 }
 
 impl fmt::Display for Closing {
     fn fmt<W: fmt::Write>(&self, f: &mut fmt::Formatter<W>) -> fmt::Result {
-        let number = self.number;
+        let Closing {
+            number,
+            casts,
+            deliveries,
+            quiet,
+            steps,
+            figures,
+        } = *self;
         let Figures {
             backing,
             support,
             reach,
             voice,
-        } = self.figures;
-        let quiet = yes(self.quiet);
-        let steps = self.steps;
-        writeln!(f, "quiet {quiet} steps left {steps}")?;
-        let Tally { same, other } = self.casts;
+        } = figures;
+        writeln!(f, "quiet {} steps left {steps}", yes(quiet))?;
+        let Tally { same, other } = casts;
         writeln!(
             f,
             "cast number {number}: {same} honest consoles, backing {backing} support {support}"
         )?;
         writeln!(f, "cast another number: {other} honest consoles")?;
-        let Tally { same, other } = self.deliveries;
-        let voice = yes(voice);
+        let Tally { same, other } = deliveries;
         writeln!(
             f,
             "delivered number {number}: {same} honest consoles, reach {reach}"
         )?;
         write!(
             f,
-            "delivered another number: {other} honest consoles, voice {voice}"
+            "delivered another number: {other} honest consoles, voice {}",
+            yes(voice)
         )
     }
 }

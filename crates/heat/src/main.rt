@@ -31,17 +31,25 @@ enum ArgumentError {
     Input(#[from] io::Error),
 }
 
-fn read_mode(rt: &HostRuntime) -> Result<Mode, ArgumentError> {
-    let mut mode = Mode::Wave;
-    for word in env::args(rt)?.skip(1) {
-        if word.as_str() != "drain" {
-            return Err(ArgumentError::Unknown(word));
+impl TryFrom<String> for Mode {
+    type Error = ArgumentError;
+
+    fn try_from(word: String) -> Result<Mode, ArgumentError> {
+        match word.as_str() {
+            "drain" => Ok(Mode::Drain),
+            _ => Err(ArgumentError::Unknown(word)),
         }
-        mode = Mode::Drain;
     }
-    Ok(mode)
 }
 
+// With no words the wave; else each word has to name a mode, and the last counts.
+fn read_mode(rt: &HostRuntime) -> Result<Mode, ArgumentError> {
+    env::args(rt)?
+        .skip(1)
+        .try_fold(Mode::Wave, |_, word| Mode::try_from(word))
+}
+
+// As floorfit does: each program tells of its own arguments, and no crate is about arguments.
 fn main(rt: HostRuntime) -> anyhow::Result<ExitCode> {
     match read_mode(&rt) {
         Ok(Mode::Wave) => play_a_wave(&rt)?,

@@ -1,7 +1,7 @@
 // What is done to a caster, one call after another.
 use caster::{Caster, Delivery};
 use floor::Refusal;
-use plain::{Endorsement, PlainCaster, PlainEvent};
+use plain::{PlainCaster, PlainEvent};
 use std::fmt;
 
 #[derive(Clone, Copy)]
@@ -15,7 +15,7 @@ pub enum Move {
 }
 
 impl Move {
-    // Makes the call.
+    /// Makes the call.
     pub fn make(self, caster: &mut PlainCaster) -> Result<Option<Delivery>, Refusal> {
         match self {
             Move::Cast {
@@ -28,17 +28,9 @@ impl Move {
     }
 }
 
-fn parts(event: PlainEvent) -> (&'static str, Endorsement) {
-    match event {
-        PlainEvent::Hand(e) => ("hand", e),
-        PlainEvent::Lose(e) => ("lose", e),
-        PlainEvent::Inject(e) => ("inject", e),
-    }
-}
-
 impl fmt::Display for Move {
     fn fmt<W: fmt::Write>(&self, f: &mut fmt::Formatter<W>) -> fmt::Result {
-        match *self {
+        match self {
             Move::Cast {
                 console,
                 session,
@@ -47,19 +39,7 @@ impl fmt::Display for Move {
                 f,
                 "cast console {console} session {session} number {number}"
             ),
-            Move::Step(event) => {
-                let (name, e) = parts(event);
-                let Endorsement {
-                    sender,
-                    receiver,
-                    session,
-                    number,
-                } = e;
-                write!(
-                    f,
-                    "{name} {sender} -> {receiver} session {session} number {number}"
-                )
-            }
+            Move::Step(event) => write!(f, "{event}"),
         }
     }
 }

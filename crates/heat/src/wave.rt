@@ -2,8 +2,9 @@
 use crate::closing::Closing;
 use crate::making::wave_caster;
 use crate::moves::Move;
-use caster::{Caster, FloorFigures};
-use plain::{Endorsement, PlainCaster, PlainEvent};
+use caster::{Caster, Delivery, FloorFigures};
+use floor::Refusal;
+use plain::{Endorsement, PlainEvent};
 use std::io;
 
 const SESSION: usize = 0;
@@ -16,6 +17,7 @@ fn cast(console: usize, number: usize) -> Move {
     }
 }
 
+// The numbers make the struct; the tests have such a function, and a program takes nothing from tests.
 fn copy(sender: usize, receiver: usize, number: usize) -> Endorsement {
     Endorsement {
         sender,
@@ -53,6 +55,7 @@ fn opening() -> [Move; 13] {
     ]
 }
 
+// A text in one place: nothing else would ask a floor for it.
 fn print_floor(rt: &HostRuntime, floor: FloorFigures) -> io::Result<()> {
     let FloorFigures {
         consoles,
@@ -70,35 +73,35 @@ fn print_floor(rt: &HostRuntime, floor: FloorFigures) -> io::Result<()> {
     Ok(())
 }
 
-fn play(rt: &HostRuntime, caster: &mut PlainCaster, turn: Move) -> io::Result<()> {
+// A move, and what it brought: a delivery, nothing, or a refusal.
+fn print_move(
+    rt: &HostRuntime,
+    turn: Move,
+    answer: Result<Option<Delivery>, Refusal>,
+) -> io::Result<()> {
     println!(rt; "{turn}")?;
-    match turn.make(caster) {
+    match answer {
         Ok(None) => Ok(()),
-        Ok(Some(new)) => {
-            let console = new.console;
-            let session = new.session;
-            let number = new.number;
-            println!(rt; "  console {console} delivers number {number} in session {session}")
-        }
-        Err(refusal) => {
-            let number = refusal.number();
-            println!(rt; "  refused with {number}: {refusal}")
-        }
+        Ok(Some(delivery)) => println!(rt; "  {delivery}"),
+        Err(refusal) => println!(rt; "  refused with {}: {refusal}", refusal.number()),
     }
+}
+
+// Takes offered steps until the caster is quiet.
+fn take_offers<C: Caster<Event = PlainEvent>>(rt: &HostRuntime, caster: &mut C) -> io::Result<()> {
+    while let Some(event) = caster.offer() {
+        print_move(rt, Move::Step(event), caster.step(event))?;
+    }
+    Ok(())
 }
 
 pub fn play_a_wave(rt: &HostRuntime) -> anyhow::Result<()> {
     let mut caster = wave_caster()?;
     print_floor(rt, caster.floor())?;
     for turn in opening() {
-        play(rt, &mut caster, turn)?;
+        print_move(rt, turn, turn.make(&mut caster))?;
     }
-    for _ in 0..caster.steps_left() {
-        let Some(event) = caster.offer() else {
-            break;
-        };
-        play(rt, &mut caster, Move::Step(event))?;
-    }
+    take_offers(rt, &mut caster)?;
     let closing = Closing::of(&caster, SESSION, 0)?;
     println!(rt; "{closing}")?;
     Ok(())

@@ -1,3 +1,3 @@
-pub mod Plans
 pub mod Routes
 pub mod Loans
+pub mod Changes

@@ -1,5 +1,5 @@
 // The plain caster.
-ghost use Rattle.std.specs.Prelude.{◌≡◌, ◌≤◌};
+ghost use Rattle.std.specs.Prelude.{◌≡◌};
 ghost use Rattle.plain_model.specs.Invariant.{Good};
 ghost use Rattle.plain_model.specs.Steps.{steps_left};
 
@@ -9,16 +9,15 @@ mod interface;
 mod making;
 mod steps;
 
-use plain_tables::{Plan, Tables};
+use crate::plain_plan::PlainPlan;
+use plain_tables::Tables;
 
-// What it was made of, and what has happened since.
+/// What it was made of, and what has happened since.
+// No model: the laws of casters are over all values of the type, so its invariant is a field of it.
 #[derive(Drop)]
 pub struct PlainCaster {
-    plan: Plan,
+    plan: PlainPlan,
     tables: Tables,
-    ghost known: { plan.floor.consoles ≤ 32 },
-    ghost entered: { plan.floor.sessions ≤ 16 },
-    ghost listed: { plan.floor.capacity ≤ 8 },
     ghost counted: { tables.left ≡ steps_left plan tables },
     ghost good: { ∥ Good plan tables ∥₁ },
 }

@@ -1,6 +1,7 @@
 -- What is known of an event or a cast that no check turns away.
 use Rattle.std.proofs.Common.{◌≡◌, ℕ, ◌<◌, true, false, not, ◌||◌, List, None, ap, ◌∙◌, subst, arith}
 use Rattle.std.proofs.lemmas.Bool.{or_parts, leb-false, not-false}
+use Rattle.std.proofs.lemmas.List.Elements.{recursion_from_All}
 use Rattle.std.specs.List.{AllByRecursion}
 use Rattle.floor.proofs.Checks.{lowest_answers}
 use Rattle.floor.specs.Refusals.{Check, Rising, Least, first_found}
@@ -28,7 +29,8 @@ cast_rising p x c s v = (omega arith, (omega arith, tt))
 
 -- Where nothing is found, each check finds nothing.
 all_passed : (checks : List Check) → Rising checks → first_found checks ≡ None → AllByRecursion (λ c. c.found ≡ false) checks
-all_passed checks rising none = subst (Least checks) none (lowest_answers checks rising)
+all_passed checks rising none =
+    recursion_from_All (λ c. c.found ≡ false) checks (subst (Least checks) none (lowest_answers checks rising))
 
 -- The numbers of an event are in range.
 pub record Inside (p : Plan) (e : Endorsement) : Type 0 where

@@ -37,8 +37,8 @@ backed_in p t c v sound good e =
 -- Two numbers that are heard so often that the hearers' sets overlap were both endorsed by an honest console.
 shared_endorser :
     (p : Plan) (t : SessionTable) (u v b c : ℕ) → SoundPlan p → GoodSession p t
-    → p.floor.consoles + p.tolerated < 2 * p.setting.deliver
-    → p.setting.deliver ≤ heard_count t u b → p.setting.deliver ≤ heard_count t v c
+    → p.floor.consoles + p.tolerated < 2 * p.setting.thresholds.deliver
+    → p.setting.thresholds.deliver ≤ heard_count t u b → p.setting.thresholds.deliver ≤ heard_count t v c
     → (k : ℕ) × (endorsed (row_of t u) k ≡ true) × (endorsed (row_of t v) k ≡ true)
 shared_endorser p t u v b c sound good large hu hv =
     let rows = good.steady.table.rows in
@@ -48,7 +48,7 @@ shared_endorser p t u v b c sound good large hu hv =
     let ys : Within p.floor.consoles y = λ f e. (rows v).heard_within f c e in
     let both : (f : ℕ) → has (bit_and x y) f ≡ true → (has x f ≡ true) × (has y f ≡ true) =
     λ f e. and_parts (has x f) (has y f) (sym (has_and x y f) ∙ e) in
-    let many = quorums_meet p.floor.consoles p.tolerated p.setting.deliver x y xs ys hu hv large in
+    let many = quorums_meet p.floor.consoles p.tolerated p.setting.thresholds.deliver x y xs ys hu hv large in
     let honest = honest_members p (bit_and x y) sound (λ f e. xs f (both f e).0) in
     let found = place_of_count p.floor.consoles (λ f. is_honest p f && has (bit_and x y) f) (omega (arith, sound.tolerable)) in
     let k = found.0 in
@@ -75,7 +75,7 @@ casters_apart p t u v sound other =
 -- Where backings do not fit beside each other, two deliveries are of one number,
 voiced_by_casters :
     (p : Plan) (t : SessionTable) (b c u v : ℕ) → SoundPlan p → GoodSession p t
-    → p.floor.consoles + p.tolerated < 2 * p.setting.forward
+    → p.floor.consoles + p.tolerated < 2 * p.setting.thresholds.forward
     → delivered_by t b ≡ Some u → delivered_by t c ≡ Some v → u ≡ v
 voiced_by_casters p t b c u v sound good large du dv =
     ⊎_elim
@@ -83,7 +83,7 @@ voiced_by_casters p t b c u v sound good large du dv =
     (λ other. absurd
     (omega (
       arith,
-      voices.apart p.floor.consoles p.tolerated (honest_total p) p.setting.forward (honest_most p sound)
+      voices.apart p.floor.consoles p.tolerated (honest_total p) p.setting.thresholds.forward (honest_most p sound)
           sound.tolerable large,
       casters_apart p t u v sound other,
       backed_in p t b u sound good du,
@@ -93,8 +93,8 @@ voiced_by_casters p t b c u v sound good large du dv =
 
 -- and so they are where a console endorses one number, and hearers overlap.
 voiced_by_endorsers :
-    (p : Plan) (t : SessionTable) (b c u v : ℕ) → SoundPlan p → GoodSession p t → p.setting.single ≡ true
-    → p.floor.consoles + p.tolerated < 2 * p.setting.deliver
+    (p : Plan) (t : SessionTable) (b c u v : ℕ) → SoundPlan p → GoodSession p t → p.setting.thresholds.single ≡ true
+    → p.floor.consoles + p.tolerated < 2 * p.setting.thresholds.deliver
     → delivered_by t b ≡ Some u → delivered_by t c ≡ Some v → u ≡ v
 voiced_by_endorsers p t b c u v sound good single large du dv =
     let heard = good.steady.delivered_heard in
@@ -111,5 +111,5 @@ voiced_in p t b c u v sound good voice du dv =
     ⊎_elim
     (λ large. voiced_by_casters p t b c u v sound good (ltb-true _ _ large) du dv)
     (λ both. let parts = and_parts _ _ both in voiced_by_endorsers p t b c u v sound good parts.0 (ltb-true _ _ parts.1) du dv)
-    (or_cases (overlap n tol p.setting.forward) (p.setting.single && overlap n tol p.setting.deliver)
+    (or_cases (overlap n tol p.setting.thresholds.forward) (p.setting.thresholds.single && overlap n tol p.setting.thresholds.deliver)
     (sym (ap (λ (f : Figures). f.voice) sound.figures) ∙ voice))

@@ -1,10 +1,9 @@
 -- The plain caster keeps the laws of casters.
-use Rattle.std.proofs.Common.{◌≡◌, ℕ, ◌<◌, true, is_ok, Some, None, Ok, Err, Option, Result, sym, refl, ap, ◌∙◌, subst}
+use Rattle.std.proofs.Common.{◌≡◌, ℕ, ◌<◌, true, is_ok, Some, None, Ok, Option, sym, refl, ap, ◌∙◌, subst}
 use mathlib.Core.Bool.{Bool-set}
 use mathlib.Core.HLevel.{×_prop}
 use mathlib.Core.Logic.{∥∥₁_elim}
 use native.Mathlib.Bridge.{le_prop}
-use Rattle.std.proofs.lemmas.Bool.{true≢false}
 use Rattle.floor.specs.Refusals.{first_found, answer, after}
 use Rattle.floor.specs.declared.refusal.Refusal.{Refusal}
 use Rattle.caster.proofs.Propositions.{sound_prop, moves_from}
@@ -19,6 +18,7 @@ use Rattle.plain_model.specs.Invariant.{Good}
 use Rattle.plain_model.specs.Offers.{Offers}
 use Rattle.plain_model.specs.Steps.{Casted, Stepped, meaning_of, steps_left, offer_of, event_checks, event_tables, event_delivery}
 use Rattle.plain_model.proofs.Moving.{event_moves, cast_moves, hand_step}
+use Rattle.floor.proofs.Checks.{accepted}
 use Rattle.plain_model.proofs.NextCopies.{offers, offering, way_sent, sent_accepted}
 use Rattle.plain_model.proofs.Soundness.{plain_sound}
 
@@ -28,16 +28,6 @@ use Rattle.plain_model.proofs.Soundness.{plain_sound}
 refusal_told : {A E : Type 0} (found : Option E) (value : A) → refusal_of (answer found value) ≡ found
 refusal_told None value = refl
 refusal_told (Some e) value = refl
-
-ok_or : {A E : Type 0} → A → Result A E → A
-ok_or d (Ok a) = a
-ok_or d (Err e) = d
-
--- An accepted call is one in which no check found anything, and answers its value.
-accepted : {A E : Type 0} (found : Option E) (value a : A) → Ok a ≡ answer found value → (found ≡ None) × (a ≡ value)
-unfolding ok_or
-accepted None value a e = (refl, ap (ok_or a) e)
-accepted (Some x) value a e = absurd (true≢false (ap is_ok e))
 
 -- ---- the laws
 

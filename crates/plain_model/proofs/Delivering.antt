@@ -17,7 +17,7 @@ module _ (p : Plan) (t : SessionTable) (v c : ℕ) where
 
   -- A console that heard the number often enough may deliver it.
   delivering_steady :
-      Steady p t → v < p.floor.capacity → is_honest p c ≡ true → p.setting.deliver ≤ heard_count t v c → Steady p delivering
+      Steady p t → v < p.floor.capacity → is_honest p c ≡ true → p.setting.thresholds.deliver ≤ heard_count t v c → Steady p delivering
   delivering_steady old known honest enough =
       record {
         table =
@@ -39,7 +39,7 @@ module _ (p : Plan) (t : SessionTable) (v c : ℕ) where
 
   -- Where it does not try, it heard too few or has delivered.
   unfinished : may_deliver p.setting t v c ≡ false → Finishes p t v c
-  unfinished idle honest enough = let often = le-leb p.setting.deliver (heard_count t v c) enough in grind arith
+  unfinished idle honest enough = let often = le-leb p.setting.thresholds.deliver (heard_count t v c) enough in grind arith
 
   -- After it has tried, deliveries are in order everywhere, and with them the session.
   pub finished_good :
@@ -56,5 +56,5 @@ module _ (p : Plan) (t : SessionTable) (v c : ℕ) where
       })
       (λ idle. record { steady = old; forwarding = forwards; heard_delivered = by_pair v c (Finishes p t) (unfinished idle) finishes })
     where
-      enough : may_deliver p.setting t v c ≡ true → p.setting.deliver ≤ heard_count t v c
-      enough tries = leb-true p.setting.deliver (heard_count t v c) (and_parts _ _ tries).0
+      enough : may_deliver p.setting t v c ≡ true → p.setting.thresholds.deliver ≤ heard_count t v c
+      enough tries = leb-true p.setting.thresholds.deliver (heard_count t v c) (and_parts _ _ tries).0

@@ -71,7 +71,7 @@ module _ (p : Plan) (t : SessionTable) (v c : ℕ) where
 
   -- The console endorses for a reason, and with single it is its first endorsement.
   pub endorsing_votes :
-      Votes p t → v < length t.rows → c < 32 → (p.setting.single ≡ true → voted t c ≡ false)
+      Votes p t → v < length t.rows → c < 32 → (p.setting.thresholds.single ≡ true → voted t c ≡ false)
       → (cast_by t c ≡ Some v) ⊎ (backing p ≤ casters p t v) → Votes p endorsing
   endorsing_votes old known console first reason =
       record {
@@ -90,11 +90,11 @@ module _ (p : Plan) (t : SessionTable) (v c : ℕ) where
             (joined_new t.voters.mask c k e);
       }
     where
-      not_before : p.setting.single ≡ true → (u k : ℕ) → endorsed (row_of t u) k ≡ true → k ≡ c → ⊥
+      not_before : p.setting.thresholds.single ≡ true → (u k : ℕ) → endorsed (row_of t u) k ≡ true → k ≡ c → ⊥
       not_before single u k before same =
           true≢false (sym (old.voters u k before) ∙ ap (voted t) same ∙ first single)
 
-      one : p.setting.single ≡ true → (u w k : ℕ) → OldOrHere u k → OldOrHere w k → u ≡ w
+      one : p.setting.thresholds.single ≡ true → (u w k : ℕ) → OldOrHere u k → OldOrHere w k → u ≡ w
       one single u w k (inl d) (inl e) = old.once single u w k d e
       one single u w k (inl d) (inr e) = absurd (not_before single u k d e.1)
       one single u w k (inr d) (inl e) = absurd (not_before single w k e d.1)

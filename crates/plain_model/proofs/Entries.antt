@@ -1,5 +1,6 @@
 -- The tables of casts and of deliveries have at most one entry for each console: reading them, and putting an entry.
 use Rattle.std.proofs.Common.{◌≡◌, ℕ, true, false, List, length, get_or, set, is_some, Some, None, Option, unwrap_or, sym, refl, ap, ◌∙◌, subst}
+use Rattle.std.proofs.lemmas.Option.{none-some}
 use Rattle.std.proofs.lemmas.Bool.{eq-eqb, eqb-true, false≢true, true≢false}
 use Rattle.caster.specs.Meanings.{is}
 use Rattle.plain_session.specs.declared.session_table.SessionTable.{SessionTable}
@@ -21,9 +22,6 @@ pub no_entry : (o : Option ℕ) → is_some o ≡ false → o ≡ None
 no_entry None e = refl
 no_entry (Some v) e = absurd (true≢false e)
 
-pub none≢some : (o : Option ℕ) (v : ℕ) → o ≡ None → o ≡ Some v → ⊥
-none≢some o v none some = false≢true (ap is_some (sym none ∙ some))
-
 -- ---- an entry is put
 
 module _ (xs : List (Option ℕ)) (i y : ℕ) where
@@ -39,7 +37,7 @@ module _ (xs : List (Option ℕ)) (i y : ℕ) where
       get_or xs i None ≡ None → (k x : ℕ) → get_or xs k None ≡ Some x → get_or (set xs i (Some y)) k None ≡ Some x
   put_keeps free =
       by_place (λ k o. (x : ℕ) → get_or xs k None ≡ Some x → o ≡ Some x) xs i (Some y) None
-      (λ x e. absurd (none≢some _ x free e)) (λ k x e. e)
+      (λ x e. absurd (none-some x (sym free ∙ e))) (λ k x e. e)
 
   -- A place with an entry keeps one.
   pub put_some : (k : ℕ) → is_some (get_or xs k None) ≡ true → is_some (get_or (set xs i (Some y)) k None) ≡ true

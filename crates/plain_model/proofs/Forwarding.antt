@@ -20,21 +20,21 @@ not_endorsed p t v c votes none = let noted = votes.voters v c in grind arith
 
 module _ (p : Plan) (t : SessionTable) (v c : ℕ) where
   -- Where it endorses, it heard the number often enough,
-  heard_enough : may_endorse p.setting t v c ≡ true → p.setting.forward ≤ heard_count t v c
-  heard_enough tries = leb-true p.setting.forward (heard_count t v c) (and_parts _ _ tries).0
+  heard_enough : may_endorse p.setting t v c ≡ true → p.setting.thresholds.forward ≤ heard_count t v c
+  heard_enough tries = leb-true p.setting.thresholds.forward (heard_count t v c) (and_parts _ _ tries).0
 
   -- has not endorsed it,
   not_yet : may_endorse p.setting t v c ≡ true → Votes p t → endorsed (row_of t v) c ≡ false
   not_yet tries votes = let noted = votes.voters v c in grind arith
 
   -- and with single no other.
-  first_if_single : may_endorse p.setting t v c ≡ true → p.setting.single ≡ true → voted t c ≡ false
+  first_if_single : may_endorse p.setting t v c ≡ true → p.setting.thresholds.single ≡ true → voted t c ≡ false
   first_if_single tries single = grind arith
 
   -- Where it does not, it heard too few, has endorsed the number, or with single another.
   unforwarded : may_endorse p.setting t v c ≡ false → Forwards p t v c
   unforwarded idle honest heard =
-      let enough = le-leb p.setting.forward (heard_count t v c) heard in
+      let enough = le-leb p.setting.thresholds.forward (heard_count t v c) heard in
       ⊎_elim inl (λ none. inr (grind arith, grind arith)) (cases_Bool (endorsed (row_of t v) c))
 
   -- What is in order after each write is so after this one.

@@ -25,7 +25,7 @@ honest_heard p t v c sound row = honest_members p (heard_by (row_of t v) c).mask
 -- and did so because enough had cast.
 pub heard_origin :
     (p : Plan) (t : SessionTable) (v c : ℕ) → SoundPlan p → GoodRow p v (row_of t v) → Votes p t
-    → p.setting.forward ≤ heard_count t v c → backing p ≤ casters p t v
+    → p.setting.thresholds.forward ≤ heard_count t v c → backing p ≤ casters p t v
 heard_origin p t v c sound row votes enough =
     ⊎_elim (λ fewer. beyond (place_beyond n cast heard_honest fewer)) (λ more. omega (arith, honest_heard p t v c sound row))
     (cases_lt (count n cast) (count n heard_honest))

@@ -16,7 +16,7 @@ use Rattle.plain_tables.specs.declared.plan.Plan.{Plan}
 use Rattle.plain_model.specs.Invariant.{RowSized, GoodSession}
 use Rattle.plain_model.specs.Plans.{SoundPlan, is_honest}
 use Rattle.plain_model.specs.Views.{endorsed, pending}
-use Rattle.plain_model.proofs.Entries.{none≢some}
+use Rattle.std.proofs.lemmas.Option.{none-some}
 use Rattle.plain_model.proofs.PutRow.{counts_same, with_row_noted}
 use Rattle.plain_model.proofs.RowViews.{empty_row_sized, lose_sized, settle_sized}
 use Rattle.plain_model.proofs.RowWrites.{lose_row_good}
@@ -33,7 +33,7 @@ nothing_heard : (v c : ℕ) → heard_count empty_session v c ≡ 0
 nothing_heard v c = ap (λ (s : ConsoleSet). ones s.mask) ((still_rows v).unheard c) ∙ ones_zero
 
 nothing_done : (c v : ℕ) → get_or (replicate 32 None) c None ≡ Some v → ⊥
-nothing_done c v = none≢some _ v (all_alike 32 None c)
+nothing_done c v some = none-some v (sym (all_alike 32 None c) ∙ some)
 
 -- The thresholds are at least 1, so nobody should have forwarded or delivered.
 pub empty_session_good : (p : Plan) → SoundPlan p → GoodSession p empty_session

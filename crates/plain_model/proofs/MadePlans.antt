@@ -1,29 +1,26 @@
 -- The plan of a draft whose thresholds keep their rules is sound.
-use Rattle.std.proofs.Common.{◌≡◌, ℕ, ◌^◌, ◌<◌, ◌≤◌, Bool, true, false, ◌&&◌, ltb, length, is_some, Some, None, Option, sym, refl, ap, ◌∙◌, subst, arith}
+use Rattle.std.proofs.Common.{◌≡◌, ℕ, ◌^◌, ◌<◌, ◌≤◌, Bool, true, false, ◌&&◌, ltb, sym, refl, ap, ◌∙◌, subst, arith}
 use lib.Bits.{bit_and}
 use lib.Count.{ones}
-use Rattle.std.proofs.lemmas.Bool.{lt-ltb, true≢false}
+use Rattle.std.proofs.lemmas.Bool.{lt-ltb}
 use Rattle.std.proofs.lemmas.Bool.Decides.{nat_tests}
 use Rattle.sets.proofs.Bits.{has_and, same_members, within_from_lt}
 use Rattle.sets.proofs.Operations.{has_first_mask, ones_first_mask}
 use Rattle.sets.proofs.TwoMasks.{ones_rest}
 use Rattle.sets.specs.Members.{has, first_mask}
 use Rattle.quorum.specs.Figures.{figures_of}
-use Rattle.quorum.specs.Rules.{Borne, PlainRules, Verdict}
-use Rattle.quorum.specs.declared.rules.Broken.{Broken}
-use Rattle.quorum.specs.declared.thresholds.Thresholds.{Thresholds}
+use Rattle.quorum.specs.Rules.{Borne, PlainRules}
+use Rattle.quorum.specs.declared.thresholds.PlainThresholds.{PlainThresholds}
 use Rattle.quorum.specs.declared.thresholds.Thresholds.TheVariants.{Plain}
-use Rattle.floor.specs.Drafts.{DraftState, honest_count}
+use Rattle.floor.specs.Drafts.{IsTolerated, DraftState, honest_count}
+use Rattle.caster.specs.Floors.{InRange, floor_of}
 use Rattle.plain_model.specs.Making.{plan_for}
 use Rattle.plain_model.specs.Plans.{SoundPlan, honest_total}
 
 -- What is known of every draft.
 pub record Drafted (s : DraftState) : Type 0 where
-  pub few_consoles : s.n ≤ 32
-  pub few_sessions : length s.sessions ≤ 16
-  pub few_payloads : s.capacity ≤ 8
-  pub within : s.byzantine.mask < 2 ^ s.n
-  pub tolerated : ones s.byzantine.mask ≤ s.t
+  pub in_range : InRange (floor_of s)
+  pub byzantine : IsTolerated s.n s.t s.byzantine
   pub byzantines : s.t ≤ s.n
 
 -- The Byzantine consoles are all on the floor.
@@ -38,28 +35,22 @@ on_floor n m few within =
     at k false e = rw e (grind (arith, nat_tests))
 
 -- The honest ones are the others.
-pub honest_others : (s : DraftState) (qd qf : ℕ) (single : Bool) → Drafted s → honest_total (plan_for s qd qf single) ≡ honest_count s
-honest_others s qd qf single d =
+pub honest_others : (s : DraftState) (q : PlainThresholds) → Drafted s → honest_total (plan_for s q) ≡ honest_count s
+honest_others s q d =
     let n = s.n in let m = s.byzantine.mask in
-    omega (arith, ones_rest (first_mask n) m, ones_first_mask n, ap ones (on_floor n m d.few_consoles d.within), d.few_consoles)
+    omega (arith, ones_rest (first_mask n) m, ones_first_mask n, ap ones (on_floor n m d.in_range.few_consoles d.byzantine.within), d.in_range.few_consoles)
 
 pub made_sound :
-    (s : DraftState) (qd qf : ℕ) (single : Bool) → Drafted s → Borne (Plain qd qf single) s.n s.t s.d
-    → SoundPlan (plan_for s qd qf single)
-made_sound s qd qf single d borne =
-    let same = honest_others s qd qf single d in
+    (s : DraftState) (q : PlainThresholds) → Drafted s → Borne (Plain q) s.n s.t s.d → SoundPlan (plan_for s q)
+made_sound s q d borne =
+    let same = honest_others s q d in
     record {
-      few_consoles = d.few_consoles;
-      few_sessions = d.few_sessions;
-      few_numbers = d.few_payloads;
-      byzantine_within = d.within;
+      few_consoles = d.in_range.few_consoles;
+      few_sessions = d.in_range.few_sessions;
+      few_numbers = d.in_range.few_numbers;
+      byzantine_within = d.byzantine.within;
       honest_set = refl;
-      tolerable = omega (arith, same, d.tolerated, d.byzantines);
-      rules = subst (PlainRules s.t s.d qd qf) (sym same) (borne (honest_count s) (omega (arith, d.tolerated)) (omega arith));
-      figures = ap (figures_of (Plain qd qf single) s.n s.t s.d) (sym same);
+      tolerable = omega (arith, same, d.byzantine.tolerated, d.byzantines);
+      rules = subst (PlainRules s.t s.d q.deliver q.forward) (sym same) (borne (honest_count s) (omega (arith, d.byzantine.tolerated)) (omega arith));
+      figures = ap (figures_of (Plain q) s.n s.t s.d) (sym same);
     }
-
--- Thresholds of which no rule is told to be broken keep their rules.
-pub unbroken_borne : (th : Thresholds) (n t d : ℕ) (o : Option Broken) → is_some o ≡ false → Verdict th n t d o → Borne th n t d
-unbroken_borne th n t d None none borne = borne
-unbroken_borne th n t d (Some b) none first = absurd (true≢false none)

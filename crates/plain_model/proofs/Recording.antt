@@ -8,7 +8,8 @@ use Rattle.plain_session.specs.Protocol.{received, delivers}
 use Rattle.plain_session.specs.Sessions.{cast_by, delivered_by}
 use Rattle.plain_session.specs.declared.endorsement.Endorsement.{Endorsement}
 use Rattle.plain_session.specs.declared.session_table.SessionTable.{SessionTable}
-use Rattle.plain_tables.specs.Tables.{silent_session, session_of, with_session, delivery_if}
+use Rattle.plain_session.specs.Places.{delivery_if, receiving}
+use Rattle.plain_tables.specs.Tables.{silent_session, session_of, with_session}
 use Rattle.plain_tables.specs.declared.plan.Plan.{Plan}
 use Rattle.plain_tables.specs.declared.tables.Tables.{Tables}
 use Rattle.plain_model.specs.Invariant.{Good}
@@ -79,7 +80,7 @@ module _ (p : Plan) (x : Tables) (good : Good p x) (e : Endorsement) (u : Sessio
 
   -- and adds the delivery that is answered.
   pub received_adds :
-      Adds (λ c s. delivered_by (session_of x s) c) (delivery_if answered e)
+      Adds (λ c s. delivered_by (session_of x s) c) (delivery_if answered (receiving e))
       (λ c s. delivered_by (session_of (with_session x e.session after) s) c)
   received_adds =
       cond_both answered (Some (record { console = e.receiver; session = e.session; number = e.number })) None

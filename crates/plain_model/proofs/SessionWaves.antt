@@ -111,25 +111,25 @@ held_none p t v c dishonest =
 
 -- Who heard the number from more consoles heard it from fewer.
 hears_less :
-    (p : Plan) (t : SessionTable) (v c : ℕ) → SoundPlan p → hears p t v p.setting.deliver c ≡ true
-    → hears p t v p.setting.forward c ≡ true
+    (p : Plan) (t : SessionTable) (v c : ℕ) → SoundPlan p → hears p t v p.setting.thresholds.deliver c ≡ true
+    → hears p t v p.setting.thresholds.forward c ≡ true
 hears_less p t v c sound often =
     let heard_often = heard_count t v c in
     let parts = and_parts _ _ often in
-    let enough : p.setting.deliver ≤ heard_often = leb-true _ _ parts.1 in
-    and_from _ _ parts.0 (le-leb p.setting.forward heard_often (omega (arith, sound.rules.ordered)))
+    let enough : p.setting.thresholds.deliver ≤ heard_often = leb-true _ _ parts.1 in
+    and_from _ _ parts.0 (le-leb p.setting.thresholds.forward heard_often (omega (arith, sound.rules.ordered)))
 
 -- Where who heard the number often enough endorsed it, its copies are the wave's.
 pub wave_at_rest :
     (p : Plan) (t : SessionTable) (v : ℕ) → SoundPlan p → GoodSession p t → AtRest t v
-    → ((c : ℕ) → is_honest p c ≡ true → p.setting.forward ≤ heard_count t v c → endorsed (row_of t v) c ≡ true)
-    → Wave p.floor.lost p.setting.deliver p.setting.forward (honest_total p) (endorsers p t v)
-    (hearers p t v p.setting.forward) (hearers p t v p.setting.deliver)
+    → ((c : ℕ) → is_honest p c ≡ true → p.setting.thresholds.forward ≤ heard_count t v c → endorsed (row_of t v) c ≡ true)
+    → Wave p.floor.lost p.setting.thresholds.deliver p.setting.thresholds.forward (honest_total p) (endorsers p t v)
+    (hearers p t v p.setting.thresholds.forward) (hearers p t v p.setting.thresholds.deliver)
 wave_at_rest p t v sound good rest forward =
     let n = p.floor.consoles in
     let x = endorsers p t v in
-    let qf = p.setting.forward in
-    let qd = p.setting.deliver in
+    let qf = p.setting.thresholds.forward in
+    let qd = p.setting.thresholds.deliver in
     record {
       nested = count_mono n (hears p t v qd) (hears p t v qf) (λ c _. hears_less p t v c sound);
       forwarded =

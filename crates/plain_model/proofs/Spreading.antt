@@ -22,14 +22,14 @@ use Rattle.plain_model.proofs.SessionWaves.{AtRest, endorsers, hears, hearers, w
 -- ---- the figures of a plan
 
 amplifying : (p : Plan) → SoundPlan p
-    → Amplifying p.tolerated p.floor.lost p.setting.deliver p.setting.forward (honest_total p)
+    → Amplifying p.tolerated p.floor.lost p.setting.thresholds.deliver p.setting.thresholds.forward (honest_total p)
 amplifying p sound = rules_amplify _ _ _ _ _ sound.rules
 
 -- Each figure is at least 1.
 pub positive_figures : (p : Plan) → SoundPlan p → (1 ≤ p.figures.backing) × (1 ≤ p.figures.support) × (1 ≤ p.figures.reach)
 positive_figures p sound =
     subst (λ (f : Figures). (1 ≤ f.backing) × (1 ≤ f.support) × (1 ≤ f.reach)) (sym sound.figures)
-    (positive.plain p.floor.consoles p.tolerated p.floor.lost p.setting.deliver p.setting.forward (honest_total p)
+    (positive.plain p.floor.consoles p.tolerated p.floor.lost p.setting.thresholds.deliver p.setting.thresholds.forward (honest_total p)
     (honest_most p sound) sound.tolerable (amplifying p sound))
 
 -- ---- of one number only
@@ -66,15 +66,15 @@ module _ (p : Plan) (t : SessionTable) (v : ℕ) (sound : SoundPlan p) (good : G
 
   -- Who heard it often enough delivered it.
   hearer_delivered :
-      (c : ℕ) → hears p t v p.setting.deliver c ≡ true
+      (c : ℕ) → hears p t v p.setting.thresholds.deliver c ≡ true
       → (is_honest p c ≡ true) × (delivered_by t c ≡ Some v)
   hearer_delivered c e =
       let parts = and_parts _ _ e in
       (parts.0, delivered_it c (good.heard_delivered v c parts.0 (leb-true _ _ parts.1)))
 
-  hearers_deliver : hearers p t v p.setting.deliver ≤ deliverers p t v
+  hearers_deliver : hearers p t v p.setting.thresholds.deliver ≤ deliverers p t v
   hearers_deliver =
-      count_mono p.floor.consoles (hears p t v p.setting.deliver)
+      count_mono p.floor.consoles (hears p t v p.setting.thresholds.deliver)
       (λ c. is_honest p c && is (delivered_by t c) v)
       (λ c _ e. let done = hearer_delivered c e in and_from _ _ done.0 (is_from (delivered_by t c) v done.1))
 
@@ -85,7 +85,7 @@ module _ (p : Plan) (t : SessionTable) (v : ℕ) (sound : SoundPlan p) (good : G
       (λ c _ e. voted_it c (good.steady.cast_voted c v (from_is (cast_by t c) v (and_parts _ _ e).1)).2)
 
   -- Whom a deliverer heard endorsed it, but for the Byzantine consoles.
-  heard_endorse : (c : ℕ) → delivered_by t c ≡ Some v → p.setting.deliver ≤ endorsers p t v + p.tolerated
+  heard_endorse : (c : ℕ) → delivered_by t c ≡ Some v → p.setting.thresholds.deliver ≤ endorsers p t v + p.tolerated
   heard_endorse c e =
       omega (
         arith,
@@ -101,8 +101,8 @@ module _ (p : Plan) (t : SessionTable) (v : ℕ) (sound : SoundPlan p) (good : G
 -- Who heard it often enough endorsed it, since nobody endorsed another: its copies make a wave.
 wave_of_only :
     (p : Plan) (t : SessionTable) (v : ℕ) → SoundPlan p → GoodSession p t → AtRest t v → OnlyCastIn p t v
-    → Wave p.floor.lost p.setting.deliver p.setting.forward (honest_total p) (endorsers p t v)
-    (hearers p t v p.setting.forward) (hearers p t v p.setting.deliver)
+    → Wave p.floor.lost p.setting.thresholds.deliver p.setting.thresholds.forward (honest_total p) (endorsers p t v)
+    (hearers p t v p.setting.thresholds.forward) (hearers p t v p.setting.thresholds.deliver)
 wave_of_only p t v sound good rest only =
     wave_at_rest p t v sound good rest
     (λ c honest enough. ⊎_elim (λ e. e) (λ other. voted_it p t v sound good only c other.1) (good.forwarding v c honest enough))
@@ -128,8 +128,8 @@ pub supported_in :
     → p.figures.support ≤ casters p t v → OnlyCastIn p t v → p.figures.reach ≤ deliverers p t v
 supported_in p t v sound good rest cast only =
     let wave = wave_of_only p t v sound good (rest v) only in
-    let enough : support_of p.floor.lost p.setting.deliver p.setting.forward (honest_total p) ≤ endorsers p t v =
+    let enough : support_of p.floor.lost p.setting.thresholds.deliver p.setting.thresholds.forward (honest_total p) ≤ endorsers p t v =
     omega (arith, ap (λ (f : Figures). f.support) sound.figures, casters_endorse p t v sound good only) in
-    let found = place_of_count p.floor.consoles (hears p t v p.setting.deliver)
+    let found = place_of_count p.floor.consoles (hears p t v p.setting.thresholds.deliver)
     (supports _ _ _ _ _ _ _ _ (amplifying p sound) wave enough) in
     spread_in p t found.0 v sound good rest (hearer_delivered p t v sound good only found.0 found.2).1 only

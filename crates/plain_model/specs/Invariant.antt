@@ -55,7 +55,7 @@ pub record Votes (p : Plan) (t : SessionTable) : Type 0 where
   pub origin : (v c : ℕ) → endorsed (row_of t v) c ≡ true → (cast_by t c ≡ Some v) ⊎ (backing p ≤ casters p t v)
   -- with single, a console endorses one number
   pub once :
-      p.setting.single ≡ true → (u v c : ℕ) → endorsed (row_of t u) c ≡ true → endorsed (row_of t v) c ≡ true → u ≡ v
+      p.setting.thresholds.single ≡ true → (u v c : ℕ) → endorsed (row_of t u) c ≡ true → endorsed (row_of t v) c ≡ true → u ≡ v
   -- the consoles that endorsed some number are noted
   pub voters : (v c : ℕ) → endorsed (row_of t v) c ≡ true → voted t c ≡ true
   pub voted_some : (c : ℕ) → voted t c ≡ true → (v : ℕ) × (endorsed (row_of t v) c ≡ true)
@@ -66,7 +66,7 @@ RightCast p t c v = (is_honest p c ≡ true) × (v < p.floor.capacity) × (voted
 
 -- A delivery in order: the console is honest, the number is in range, and the console heard it often enough.
 abbrev pub RightDelivery : Plan → SessionTable → (console number : ℕ) → Type 0
-RightDelivery p t c v = (is_honest p c ≡ true) × (v < p.floor.capacity) × (p.setting.deliver ≤ heard_count t v c)
+RightDelivery p t c v = (is_honest p c ≡ true) × (v < p.floor.capacity) × (p.setting.thresholds.deliver ≤ heard_count t v c)
 
 -- What is in order in a session after each write, also while an endorsement is arriving.
 pub record Steady (p : Plan) (t : SessionTable) : Type 0 where
@@ -80,12 +80,12 @@ pub record Steady (p : Plan) (t : SessionTable) : Type 0 where
 -- The console forwards as it should: if it heard the number often enough, it has endorsed it, or with single another.
 abbrev pub Forwards : Plan → SessionTable → (number console : ℕ) → Type 0
 Forwards p t v c =
-    is_honest p c ≡ true → p.setting.forward ≤ heard_count t v c
-    → (endorsed (row_of t v) c ≡ true) ⊎ ((p.setting.single ≡ true) × (voted t c ≡ true))
+    is_honest p c ≡ true → p.setting.thresholds.forward ≤ heard_count t v c
+    → (endorsed (row_of t v) c ≡ true) ⊎ ((p.setting.thresholds.single ≡ true) × (voted t c ≡ true))
 
 -- The console delivers as it should: if it heard the number often enough, it has delivered some number.
 abbrev pub Finishes : Plan → SessionTable → (number console : ℕ) → Type 0
-Finishes p t v c = is_honest p c ≡ true → p.setting.deliver ≤ heard_count t v c → is_some (delivered_by t c) ≡ true
+Finishes p t v c = is_honest p c ≡ true → p.setting.thresholds.deliver ≤ heard_count t v c → is_some (delivered_by t c) ≡ true
 
 -- One session.
 pub record GoodSession (p : Plan) (t : SessionTable) : Type 0 where

@@ -21,7 +21,7 @@ among p test = count p.floor.consoles (λ console. is_honest p console && test c
 
 -- so many honest consoles are among any that suffice to forward
 abbrev pub backing : Plan → ℕ
-backing p = backing_of p.floor.consoles (honest_total p) p.setting.forward
+backing p = backing_of p.floor.consoles (honest_total p) p.setting.thresholds.forward
 
 -- The floor is in range, the thresholds keep their rules on it, and the figures are theirs.
 pub record SoundPlan (p : Plan) : Type 0 where
@@ -31,8 +31,7 @@ pub record SoundPlan (p : Plan) : Type 0 where
   pub byzantine_within : p.floor.byzantine.mask < 2 ^ p.floor.consoles
   pub honest_set : p.setting.honest ≡ honest_consoles p.floor
   pub tolerable : p.floor.consoles ≤ honest_total p + p.tolerated
-  pub rules : PlainRules p.tolerated p.floor.lost p.setting.deliver p.setting.forward (honest_total p)
+  pub rules : PlainRules p.tolerated p.floor.lost p.setting.thresholds.deliver p.setting.thresholds.forward (honest_total p)
   pub figures :
       p.figures
-      ≡ figures_of (Plain p.setting.deliver p.setting.forward p.setting.single) p.floor.consoles p.tolerated
-      p.floor.lost (honest_total p)
+      ≡ figures_of (Plain p.setting.thresholds) p.floor.consoles p.tolerated p.floor.lost (honest_total p)

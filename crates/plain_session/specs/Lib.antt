@@ -1,4 +1,5 @@
 pub mod Agendas
+pub mod Places
 pub mod Rows
 pub mod Sessions
 pub mod Protocol

@@ -34,21 +34,12 @@ busy_row r = not (r.senders.places.mask == 0)
 
 -- the sender's endorsement has reached the receiver
 abbrev pub hear_row : Row → (sender receiver : ℕ) → Row
-hear_row r sender receiver = record {
-  endorsed = r.endorsed;
-  heard = slice_set r.heard receiver (with_console (heard_by r receiver) sender);
-  pending = r.pending;
-  lost = r.lost;
-  senders = r.senders;
-}
+hear_row r sender receiver = record r { heard = slice_set r.heard receiver (with_console (heard_by r receiver) sender) }
 
 -- the sender's copies are under way to these consoles
 abbrev pub send_row : Row → (sender : ℕ) → (receivers : ConsoleSet) → Row
-send_row r sender receivers = record {
-  endorsed = r.endorsed;
-  heard = r.heard;
+send_row r sender receivers = record r {
   pending = slice_set r.pending sender receivers;
-  lost = r.lost;
   senders = noted r.senders sender (not (receivers.mask == 0));
 }
 
@@ -58,21 +49,8 @@ settle_row r sender receiver = send_row r sender (without_console (pending_from 
 
 -- the copy is lost
 abbrev pub lose_row : Row → (sender receiver : ℕ) → Row
-lose_row r sender receiver = record {
-  endorsed = r.endorsed;
-  heard = r.heard;
-  pending = r.pending;
-  lost = slice_set r.lost sender (with_console (lost_from r sender) receiver);
-  senders = r.senders;
-}
+lose_row r sender receiver = record r { lost = slice_set r.lost sender (with_console (lost_from r sender) receiver) }
 
 -- the console endorses the number: a copy to each honest console is under way
 abbrev pub endorse_row : Row → (console : ℕ) → (honest : ConsoleSet) → Row
-endorse_row r console honest =
-    send_row (record {
-      endorsed = with_console r.endorsed console;
-      heard = r.heard;
-      pending = r.pending;
-      lost = r.lost;
-      senders = r.senders;
-    }) console honest
+endorse_row r console honest = send_row (record r { endorsed = with_console r.endorsed console }) console honest

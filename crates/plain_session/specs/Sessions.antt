@@ -59,33 +59,19 @@ first_copy t session = first_of t session (first_member t.numbers.places.mask)
 
 -- this has happened to the number, and these consoles have endorsed some number
 abbrev pub with_row : SessionTable → (number : ℕ) → Row → (voters : ConsoleSet) → SessionTable
-with_row t number row voters = record {
+with_row t number row voters = record t {
   rows = slice_set t.rows number row;
   voters = voters;
-  casts = t.casts;
-  deliveries = t.deliveries;
   numbers = noted t.numbers number (busy_row row);
 }
 
 -- the sender's endorsement has reached the receiver
 abbrev pub hear_table : SessionTable → (number sender receiver : ℕ) → SessionTable
-hear_table t number sender receiver = record {
-  rows = slice_set t.rows number (hear_row (row_of t number) sender receiver);
-  voters = t.voters;
-  casts = t.casts;
-  deliveries = t.deliveries;
-  numbers = t.numbers;
-}
+hear_table t number sender receiver = record t { rows = slice_set t.rows number (hear_row (row_of t number) sender receiver) }
 
 -- the copy is marked as lost
 abbrev pub lose_table : SessionTable → (number sender receiver : ℕ) → SessionTable
-lose_table t number sender receiver = record {
-  rows = slice_set t.rows number (lose_row (row_of t number) sender receiver);
-  voters = t.voters;
-  casts = t.casts;
-  deliveries = t.deliveries;
-  numbers = t.numbers;
-}
+lose_table t number sender receiver = record t { rows = slice_set t.rows number (lose_row (row_of t number) sender receiver) }
 
 -- the copy is no longer under way
 abbrev pub settle_table : SessionTable → (number sender receiver : ℕ) → SessionTable
@@ -98,20 +84,8 @@ endorse_table t number console honest =
 
 -- the console delivers the number
 abbrev pub deliver_table : SessionTable → (number console : ℕ) → SessionTable
-deliver_table t number console = record {
-  rows = t.rows;
-  voters = t.voters;
-  casts = t.casts;
-  deliveries = slice_set t.deliveries console (Some number);
-  numbers = t.numbers;
-}
+deliver_table t number console = record t { deliveries = slice_set t.deliveries console (Some number) }
 
 -- the number is recorded as cast by the console
 abbrev pub record_table : SessionTable → (number console : ℕ) → SessionTable
-record_table t number console = record {
-  rows = t.rows;
-  voters = t.voters;
-  casts = slice_set t.casts console (Some number);
-  deliveries = t.deliveries;
-  numbers = t.numbers;
-}
+record_table t number console = record t { casts = slice_set t.casts console (Some number) }

@@ -5,14 +5,14 @@ ghost use Rattle.plain_session.specs.Agendas.{nothing, noted};
 
 use sets::ConsoleSet;
 
-// The places, below 32, at which something is under way.
-#[derive(Clone, Copy)]
+/// The places, below 32, at which something is under way.
+#[derive(Clone, Copy, PartialEq, Eq, Debug)]
 pub struct Agenda {
     pub places: ConsoleSet,
 }
 
 impl Agenda {
-    // Nothing is under way.
+    /// Nothing is under way.
     pub const fn empty() -> Agenda
         ensures { result ≡ nothing }
     {
@@ -21,7 +21,7 @@ impl Agenda {
         }
     }
 
-    // Something is under way at the place, or nothing any longer.
+    /// Something is under way at the place, or nothing any longer.
     pub fn noted(self, place: usize, busy: bool) -> Agenda
         ensures { result ≡ noted self place busy }
     {
@@ -33,7 +33,7 @@ impl Agenda {
         Agenda { places }
     }
 
-    // The lowest place with something under way.
+    /// The lowest place with something under way.
     pub fn first(self) -> Option<usize>
         ensures answered { result ≡ first_member self.places.mask }
         ensures bounded { IfSome result (λ place. place < 32) }

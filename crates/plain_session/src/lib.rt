@@ -11,7 +11,7 @@ mod setting;
 
 pub use agenda::Agenda;
 pub use endorsement::Endorsement;
-pub use places::{Route, Vote};
+pub use places::{Route, SESSIONS, Vote};
 pub use row::Row;
 pub use session_table::SessionTable;
 pub use setting::Setting;

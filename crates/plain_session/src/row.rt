@@ -1,22 +1,25 @@
 // What has happened to one number of a session.
-ghost use Rattle.std.specs.Prelude.{◌≡◌, ◌<◌};
+ghost use Rattle.std.specs.Prelude.{◌≡◌};
 ghost use Rattle.plain_session.specs.Rows.{empty_row, hear_row, settle_row, lose_row, endorse_row};
+ghost use Rattle.plain_session.specs.Sessions.{first_of_number};
 
 use crate::agenda::Agenda;
-use crate::places::CONSOLES;
+use crate::endorsement::Endorsement;
+use crate::places::{CONSOLES, Route, Vote};
 use sets::ConsoleSet;
 
-#[derive(Clone, Copy)]
+// Fixed arrays and no heap. Each write changes one of the three, `heard` by receiver and the others by sender: pairs would be taken apart at each.
+#[derive(Clone, Copy, PartialEq, Eq, Debug)]
 pub struct Row {
-    // the honest consoles that have endorsed the number
+    /// the honest consoles that have endorsed the number
     pub endorsed: ConsoleSet,
-    // by receiver, the consoles whose endorsement has reached it
+    /// by receiver, the consoles whose endorsement has reached it
     pub heard: [ConsoleSet; CONSOLES],
-    // by sender, the consoles to which a copy of its endorsement is under way
+    /// by sender, the consoles to which a copy of its endorsement is under way
     pub pending: [ConsoleSet; CONSOLES],
-    // by sender, the consoles to which a copy of its endorsement was lost
+    /// by sender, the consoles to which a copy of its endorsement was lost
     pub lost: [ConsoleSet; CONSOLES],
-    // the senders that have copies under way
+    /// the senders that have copies under way
     pub senders: Agenda,
 }
 
@@ -35,38 +38,52 @@ impl Row {
     }
 
     // The sender's endorsement has reached the receiver.
-    pub(crate) fn hear(&mut self, sender: usize, receiver: usize)
-        requires { receiver < 32 }
-        ensures { self.new ≡ hear_row self.old sender receiver }
+    pub(crate) fn hear(&mut self, route: Route)
+        ensures { self.new ≡ hear_row self.old route.sender route.receiver }
     {
-        self.heard[receiver] = self.heard[receiver].with(sender);
+        let copy = route.copy;
+        self.heard[copy.receiver] = self.heard[copy.receiver].with(copy.sender);
     }
 
     // The copy is no longer under way.
-    pub(crate) fn settle(&mut self, sender: usize, receiver: usize)
-        requires { sender < 32 }
-        ensures { self.new ≡ settle_row self.old sender receiver }
+    pub(crate) fn settle(&mut self, route: Route)
+        ensures { self.new ≡ settle_row self.old route.sender route.receiver }
     {
-        let rest = self.pending[sender].without(receiver);
-        self.pending[sender] = rest;
-        self.senders = self.senders.noted(sender, !rest.is_empty());
+        let copy = route.copy;
+        let rest = self.pending[copy.sender].without(copy.receiver);
+        self.pending[copy.sender] = rest;
+        self.senders = self.senders.noted(copy.sender, !rest.is_empty());
     }
 
     // The copy is lost.
-    pub(crate) fn lose(&mut self, sender: usize, receiver: usize)
-        requires { sender < 32 }
-        ensures { self.new ≡ lose_row self.old sender receiver }
+    pub(crate) fn lose(&mut self, route: Route)
+        ensures { self.new ≡ lose_row self.old route.sender route.receiver }
     {
-        self.lost[sender] = self.lost[sender].with(receiver);
+        let copy = route.copy;
+        self.lost[copy.sender] = self.lost[copy.sender].with(copy.receiver);
     }
 
     // The console endorses the number: a copy to each honest console is under way.
-    pub(crate) fn endorse(&mut self, console: usize, honest: ConsoleSet)
-        requires { console < 32 }
-        ensures { self.new ≡ endorse_row self.old console honest }
+    pub(crate) fn endorse(&mut self, vote: Vote, honest: ConsoleSet)
+        ensures { self.new ≡ endorse_row self.old vote.console honest }
     {
-        self.endorsed = self.endorsed.with(console);
-        self.pending[console] = honest;
-        self.senders = self.senders.noted(console, !honest.is_empty());
+        self.endorsed = self.endorsed.with(vote.console);
+        self.pending[vote.console] = honest;
+        self.senders = self.senders.noted(vote.console, !honest.is_empty());
+    }
+
+    // The copy under way that is the lowest by sender and receiver, named by the session and the number of the row.
+    // The session and the number are handed in, since a row knows neither.
+    pub(crate) fn first_copy(&self, session: usize, number: usize) -> Option<Endorsement>
+        ensures { result ≡ first_of_number self.now session number }
+    {
+        let sender = self.senders.first()?;
+        let receiver = self.pending[sender].first()?;
+        Some(Endorsement {
+            sender,
+            receiver,
+            session,
+            number,
+        })
     }
 }

@@ -1,12 +1,10 @@
 // What the honest consoles of a plain caster go by.
+use quorum::PlainThresholds;
 use sets::ConsoleSet;
 
-// The honest consoles, from how many endorsements on a number is delivered and forwarded, and whether a console endorses a single number
-// in a session.
-#[derive(Clone, Copy)]
+/// The honest consoles, and the thresholds at which they deliver and endorse.
+#[derive(Clone, Copy, PartialEq, Eq, Debug)]
 pub struct Setting {
     pub honest: ConsoleSet,
-    pub deliver: usize,
-    pub forward: usize,
-    pub single: bool,
+    pub thresholds: PlainThresholds,
 }

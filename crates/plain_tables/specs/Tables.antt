@@ -1,13 +1,13 @@
 -- All sessions of a plain caster, and what an event or a cast does to them.
-use Rattle.std.specs.Prelude.{ℕ, ◌-◌, Bool, cond, not, [], replicate, Some, None, Option, ◌==◌, count_ones, slice_index_or, slice_set}
+use Rattle.std.specs.Prelude.{ℕ, ◌-◌, Bool, not, [], replicate, Some, None, Option, ◌==◌, count_ones, slice_index_or, slice_set}
 use Rattle.sets.specs.Members.{has, empty_set, first_member}
 use Rattle.caster.specs.declared.delivery.Delivery.{Delivery}
 use Rattle.plain_session.specs.Agendas.{nothing, noted}
+use Rattle.plain_session.specs.Places.{delivery_if, receiving}
 use Rattle.plain_session.specs.Protocol.{received, delivers, handed, lost_copy, casting}
 use Rattle.plain_session.specs.Rows.{heard_by, pending_from, lost_from}
 use Rattle.plain_session.specs.Sessions.{empty_session, row_of, first_copy, settle_table}
 use Rattle.plain_session.specs.declared.endorsement.Endorsement.{Endorsement}
-use Rattle.plain_session.specs.declared.places.Route.{Route}
 use Rattle.plain_session.specs.declared.row.Row.{Row}
 use Rattle.plain_session.specs.declared.session_table.SessionTable.{SessionTable}
 use Rattle.plain_session.specs.declared.setting.Setting.{Setting}
@@ -25,10 +25,6 @@ silent_session = record { rows = []; voters = empty_set; casts = []; deliveries 
 abbrev pub session_of : Tables → (session : ℕ) → SessionTable
 session_of x session = slice_index_or x.sessions session silent_session
 
--- the numbers of a route
-abbrev pub route_of : Route → Endorsement
-route_of r = record { sender = r.sender; receiver = r.receiver; session = r.session; number = r.number }
-
 -- some copy is under way in the session
 abbrev pub busy_session : SessionTable → Bool
 busy_session t = not (t.numbers.places.mask == 0)
@@ -37,23 +33,18 @@ busy_session t = not (t.numbers.places.mask == 0)
 
 -- whether copies are under way in the session is noted
 abbrev pub note_tables : Tables → (session : ℕ) → Tables
-note_tables x session = record {
-  sessions = x.sessions;
-  busy = noted x.busy session (busy_session (session_of x session));
-  left = x.left;
-}
+note_tables x session = record x { busy = noted x.busy session (busy_session (session_of x session)) }
 
 -- this has happened in the session
 abbrev pub with_session : Tables → (session : ℕ) → SessionTable → Tables
-with_session x session t = record {
+with_session x session t = record x {
   sessions = slice_set x.sessions session t;
   busy = noted x.busy session (busy_session t);
-  left = x.left;
 }
 
 -- one step fewer can come
 abbrev pub lowered : Tables → Tables
-lowered x = record { sessions = x.sessions; busy = x.busy; left = x.left - 1 }
+lowered x = record x { left = x.left - 1 }
 
 -- an endorsement reaches its receiver
 abbrev pub receive_tables : Setting → Tables → Endorsement → Tables
@@ -77,19 +68,15 @@ cast_tables setting x console session number =
 
 -- ---- what is delivered
 
-abbrev pub delivery_if : Bool → Endorsement → Option Delivery
-delivery_if delivers e =
-    cond delivers (Some (record { console = e.receiver; session = e.session; number = e.number })) None
-
 abbrev pub receive_delivery : Setting → Tables → Endorsement → Option Delivery
 receive_delivery setting x e =
-    delivery_if (delivers setting (session_of x e.session) e.number e.sender e.receiver) e
+    delivery_if (delivers setting (session_of x e.session) e.number e.sender e.receiver) (receiving e)
 
 abbrev pub hand_delivery : Setting → Tables → Endorsement → Option Delivery
 hand_delivery setting x e =
     delivery_if
     (delivers setting (settle_table (session_of x e.session) e.number e.sender e.receiver) e.number e.sender
-    e.receiver) e
+    e.receiver) (receiving e)
 
 -- ---- questions
 

@@ -2,16 +2,15 @@
 mod questions;
 mod steps;
 
-use plain_session::{Agenda, SessionTable};
+use plain_session::{Agenda, SESSIONS, SessionTable};
 
-const SESSIONS: usize = 16;
-
-#[derive(Clone, Copy)]
+// Fixed arrays and no heap.
+#[derive(Clone, Copy, PartialEq, Eq, Debug)]
 pub struct Tables {
-    // by session, what has happened in it
+    /// by session, what has happened in it
     pub sessions: [SessionTable; SESSIONS],
-    // the sessions that have copies under way
+    /// the sessions that have copies under way
     pub busy: Agenda,
-    // how many copies were neither handed nor lost, sent or not
+    /// how many copies were neither handed nor lost, sent or not
     pub left: usize,
 }

@@ -3,12 +3,14 @@ use crate::scenes::eight;
 use caster::Caster;
 use floor::{Draft, Refusal};
 use plain::PlainCaster;
+use quorum::PlainThresholds;
 use std::test::Fail;
 
-fn refusal_of(draft: &Draft, deliver: usize, forward: usize) -> Option<Refusal> {
-    match PlainCaster::plan(draft, deliver, forward, true) {
-        Ok(_) => None,
-        Err(refusal) => Some(refusal),
+fn single(deliver: usize, forward: usize) -> PlainThresholds {
+    PlainThresholds {
+        deliver,
+        forward,
+        single: true,
     }
 }
 
@@ -18,7 +20,10 @@ fn refusal_of(draft: &Draft, deliver: usize, forward: usize) -> Option<Refusal> 
 fn thresholds_within_the_rules_are_accepted(rt: HostRuntime) -> Result<(), Fail> {
     let draft = eight(1)?;
     for [deliver, forward] in [[5, 2], [6, 2], [4, 2]] {
-        assert_eq!(rt; refusal_of(&draft, deliver, forward), None);
+        assert_eq!(rt;
+            PlainCaster::plan(&draft, single(deliver, forward)).err(),
+            None
+        );
     }
     Ok(())
 }
@@ -29,7 +34,7 @@ fn thresholds_that_break_a_rule_are_refused_with_4(rt: HostRuntime) -> Result<()
     let draft = eight(1)?;
     for [deliver, forward] in [[5, 1], [1, 2], [7, 2], [3, 2]] {
         assert_eq!(rt;
-            refusal_of(&draft, deliver, forward),
+            PlainCaster::plan(&draft, single(deliver, forward)).err(),
             Some(Refusal::ThresholdRule)
         );
     }
@@ -40,8 +45,11 @@ fn thresholds_that_break_a_rule_are_refused_with_4(rt: HostRuntime) -> Result<()
 #[test]
 fn endorsements_must_not_rest_one_short_of_a_delivery(rt: HostRuntime) -> Result<(), Fail> {
     let draft = Draft::new(Draft::plan(8, 0, 1, 1)?);
-    assert_eq!(rt; refusal_of(&draft, 5, 3), None);
-    assert_eq!(rt; refusal_of(&draft, 5, 4), Some(Refusal::ThresholdRule));
+    assert_eq!(rt; PlainCaster::plan(&draft, single(5, 3)).err(), None);
+    assert_eq!(rt;
+        PlainCaster::plan(&draft, single(5, 4)).err(),
+        Some(Refusal::ThresholdRule)
+    );
     Ok(())
 }
 

@@ -19,15 +19,12 @@ fn begun() -> Result<PlainCaster, Refusal> {
 }
 
 // Both answer alike after two more casts, which make a wave, and after each offered step.
-fn same_course(rt: &impl Abort, mut one: PlainCaster, mut other: PlainCaster) {
+fn same_course<C: Caster<Event = PlainEvent> + Drop>(rt: &impl Abort, mut one: C, mut other: C) {
     for console in 1..3 {
         assert_eq!(rt; one.cast(console, 0, 0), other.cast(console, 0, 0));
     }
-    for _ in 0..one.steps_left() {
+    while let Some(event) = one.offer() {
         assert_eq!(rt; Picture::of(&one), Picture::of(&other));
-        let Some(event) = one.offer() else {
-            break;
-        };
         assert_eq!(rt; one.step(event), other.step(event));
     }
     assert_eq!(rt; Picture::of(&one), Picture::of(&other));
@@ -37,8 +34,8 @@ fn same_course(rt: &impl Abort, mut one: PlainCaster, mut other: PlainCaster) {
 fn refused(rt: &impl Abort, events: &[PlainEvent], refusal: Refusal) -> Result<(), Fail> {
     let mut caster = begun()?;
     let before = Picture::of(&caster);
-    for event in events {
-        assert_eq!(rt; caster.step(*event), Err(refusal));
+    for &event in events {
+        assert_eq!(rt; caster.step(event), Err(refusal));
         assert_eq!(rt; Picture::of(&caster), before);
     }
     same_course(rt, caster, begun()?);

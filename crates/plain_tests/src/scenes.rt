@@ -1,7 +1,6 @@
 // Floors and calls that the tests begin with.
-use caster::Caster;
 use floor::{Draft, Refusal};
-use plain::{Endorsement, PlainCaster, PlainEvent};
+use plain::Endorsement;
 
 // Eight consoles, of which console 7 is Byzantine, one lost copy, and two payload numbers.
 pub(crate) fn eight(sessions: usize) -> Result<Draft, Refusal> {
@@ -13,19 +12,12 @@ pub(crate) fn eight(sessions: usize) -> Result<Draft, Refusal> {
     Ok(draft)
 }
 
+// The four make the struct; heat has such a function, and a program takes nothing from tests.
 pub(crate) fn copy(sender: usize, receiver: usize, session: usize, number: usize) -> Endorsement {
     Endorsement {
         sender,
         receiver,
         session,
         number,
-    }
-}
-
-// The copy that is offered, to be handed over.
-pub(crate) fn offered(caster: &PlainCaster) -> Option<Endorsement> {
-    match caster.offer()? {
-        PlainEvent::Hand(e) => Some(e),
-        PlainEvent::Lose(_) | PlainEvent::Inject(_) => None,
     }
 }

@@ -1,23 +1,21 @@
 // Waves worked out by hand.
-use crate::scenes::{copy, eight, offered};
+use crate::scenes::{copy, eight};
 use caster::{Caster, drain};
 use floor::{Draft, Refusal};
 use plain::{PlainCaster, PlainEvent};
-use std::process::Abort;
+use quorum::PlainThresholds;
+use std::alloc::Global;
 use std::test::Fail;
 
 // The steps to the end that bring a delivery, by sender and receiver.
-fn bringing(rt: &impl Abort, caster: &mut PlainCaster) -> Result<[(usize, usize); 7], Fail> {
-    let mut brought = [(8, 8); 7];
-    let mut found = 0;
-    for _ in 0..caster.steps_left() {
-        let Some(e) = offered(caster) else {
-            break;
-        };
+fn bringing<C: Caster<Event = PlainEvent>>(
+    alloc: Global,
+    caster: &mut C,
+) -> Result<Vec<(usize, usize)>, Fail> {
+    let mut brought = Vec::new(alloc);
+    while let Some(PlainEvent::Hand(e)) = caster.offer() {
         if caster.step(PlainEvent::Hand(e))?.is_some() {
-            assert!(rt; found < brought.len());
-            brought[found] = (e.sender, e.receiver);
-            found += 1;
+            brought.push((e.sender, e.receiver))?;
         }
     }
     Ok(brought)
@@ -34,10 +32,10 @@ fn a_wave_is_forwarded(rt: HostRuntime) -> Result<(), Fail> {
     caster.cast(1, 0, 0)?;
     caster.step(PlainEvent::Inject(copy(7, 5, 0, 0)))?;
     caster.step(PlainEvent::Lose(copy(1, 6, 0, 0)))?;
-    let brought = bringing(&rt, &mut caster)?;
+    let brought = bringing(rt.alloc(), &mut caster)?;
     assert_eq!(rt;
-        brought,
-        [(2, 5), (3, 0), (3, 1), (3, 2), (3, 3), (3, 4), (4, 6)]
+        brought.as_slice(),
+        [(2, 5), (3, 0), (3, 1), (3, 2), (3, 3), (3, 4), (4, 6)].as_slice()
     );
     assert!(rt; caster.is_quiet());
     assert_eq!(rt; caster.steps_left(), 49);
@@ -46,7 +44,12 @@ fn a_wave_is_forwarded(rt: HostRuntime) -> Result<(), Fail> {
 
 // How many steps it takes until two numbers, each cast by two consoles, come to rest, and what console 6 then has delivered.
 fn two_numbers(single: bool) -> Result<(usize, Option<usize>), Refusal> {
-    let mut caster = PlainCaster::new(PlainCaster::plan(&eight(1)?, 5, 2, single)?);
+    let thresholds = PlainThresholds {
+        deliver: 5,
+        forward: 2,
+        single,
+    };
+    let mut caster = PlainCaster::new(PlainCaster::plan(&eight(1)?, thresholds)?);
     for (console, number) in [(0, 0), (1, 0), (2, 1), (3, 1)] {
         caster.cast(console, 0, number)?;
     }

@@ -1,66 +1,19 @@
--- What the answers of `broken` and `figures` mean: at one count of honest consoles, and over a range of them.
-use Rattle.std.proofs.Common.{◌≡◌, ℕ, zero, suc, ◌+◌, ◌-◌, ◌*◌, ◌<◌, ◌≤◌, Bool, true, false, ◌&&◌, ltb, leb, Some, None, Option, sym, refl, ◌∙◌, subst, inl, inr, arith, MatchOption}
-use Rattle.std.proofs.lemmas.Bool.{and_from, and_parts, cases_eq, cond_both, false≢true, le-leb, leb-false, leb-true, ltb-false, ltb-true}
-use Rattle.quorum.specs.declared.figures.Figures.{Figures}
+-- What the answers of `broken` mean: at one count of honest consoles, and over a range of them.
+use Rattle.std.proofs.Common.{◌≡◌, ℕ, zero, suc, ◌+◌, ◌-◌, ◌<◌, ◌≤◌, Some, None, Option, sym, refl, subst, inl, inr, arith, MatchOption}
+use Rattle.std.proofs.lemmas.Bool.Decides.{nat_tests}
+use Rattle.std.proofs.lemmas.Bool.{cases_eq}
 use Rattle.quorum.specs.declared.rules.Broken.{Broken}
 use Rattle.quorum.specs.declared.rules.Rule.{Rule}
-use Rattle.quorum.specs.declared.rules.Rule.TheVariants.{Witnessed, Ordered, Attainable, Amplified, Sustained, Overlapping}
 use Rattle.quorum.specs.declared.thresholds.Thresholds.{Thresholds}
-use Rattle.quorum.specs.declared.thresholds.Thresholds.TheVariants.{Plain, Signed}
-use Rattle.quorum.specs.Figures.{FiguresMean, figures_at, figures_of, unless_broken}
-use Rattle.quorum.specs.Rules.{Borne, unless, broken_at, broken_or, broken_from, first_broken, RulesHold, FailsFirst, Verdict}
-
--- A test that fails is told by its name, and one that holds leaves it to the later ones.
-unless_tells :
-    {A : Type 0} (b : Bool) (name : A) (later : Option A) (P : Option A → Type 0)
-    → (b ≡ false → P (Some name)) → (b ≡ true → P later) → P (unless b name later)
-unless_tells b name later P fails holds = cond_both b later (Some name) P holds fails
+use Rattle.quorum.specs.Rules.{Borne, broken_at, broken_or, broken_from, first_broken, RulesHold, FailsFirst, Verdict}
 
 -- The rule that is named is the first to fail, and where none is named the rules hold.
 pub broken_tells : (th : Thresholds) (t d g : ℕ) → MatchOption (broken_at th t d g) (RulesHold th t d g) (FailsFirst th t d g)
-broken_tells (Plain qd qf single) t d g =
-    let th = Plain qd qf single in
-    let P : Option Rule → Type 0 = λ o. MatchOption o (RulesHold th t d g) (FailsFirst th t d g) in
-    let short = g * (qf - 1) in let one_less = (g - d - qd + qf) * (qd - 1) in
-    let honest_share = (qd - 1 - t) * (g - d + qf - 1 - (qd - 1 - t)) in
-    unless_tells (ltb t qf) Witnessed _ P (ltb-false t qf) (λ e.
-    let r₁ = ltb-true t qf e in
-    unless_tells (leb qf qd) Ordered _ P (λ e. (r₁, leb-false qf qd e)) (λ e.
-    let r₂ = leb-true qf qd e in
-    unless_tells (leb qd (g - d)) Attainable _ P (λ e. (r₁, r₂, leb-false qd (g - d) e)) (λ e.
-    let r₃ = leb-true qd (g - d) e in
-    unless_tells (ltb short one_less) Amplified _ P (λ e. (r₁, r₂, r₃, ltb-false short one_less e)) (λ e.
-    let r₄ = ltb-true short one_less e in
-    unless_tells (leb short honest_share) Sustained None P (λ e. (r₁, r₂, r₃, r₄, leb-false short honest_share e)) (λ e.
-    record { witnessed = r₁; ordered = r₂; attainable = r₃; amplified = r₄; sustained = leb-true short honest_share e })))))
-broken_tells (Signed qd) t d g =
-    let P : Option Rule → Type 0 = λ o. MatchOption o (RulesHold (Signed qd) t d g) (FailsFirst (Signed qd) t d g) in
-    unless_tells (ltb (2 * d) g) Overlapping _ P (ltb-false (2 * d) g) (λ e.
-    let r₁ = ltb-true (2 * d) g e in
-    unless_tells (leb qd (g - d)) Attainable _ P (λ e. (r₁, leb-false qd (g - d) e)) (λ e.
-    let r₂ = leb-true qd (g - d) e in
-    unless_tells (ltb t qd) Witnessed None P (λ e. (r₁, r₂, ltb-false t qd e)) (λ e.
-    record { overlapping = r₁; attainable = r₂; witnessed = ltb-true t qd e })))
-
--- For proofs that have an answer in hand.
-pub unbroken_holds : (th : Thresholds) (t d g : ℕ) → broken_at th t d g ≡ None → RulesHold th t d g
-unbroken_holds th t d g e =
-    subst (λ (o : Option Rule). MatchOption o (RulesHold th t d g) (FailsFirst th t d g)) e (broken_tells th t d g)
+broken_tells th t d g = grind (arith, nat_tests)
 
 -- A rule that fails first does fail.
 fails_not_holds : (th : Thresholds) (t d g : ℕ) (rule : Rule) → FailsFirst th t d g rule → RulesHold th t d g → ⊥
-fails_not_holds (Plain qd qf single) t d g Witnessed fails holds = omega arith
-fails_not_holds (Plain qd qf single) t d g Ordered fails holds = omega arith
-fails_not_holds (Plain qd qf single) t d g Attainable fails holds = omega arith
-fails_not_holds (Plain qd qf single) t d g Amplified fails holds = omega arith
-fails_not_holds (Plain qd qf single) t d g Sustained fails holds = omega arith
-fails_not_holds (Plain qd qf single) t d g Overlapping fails holds = fails
-fails_not_holds (Signed qd) t d g Witnessed fails holds = omega arith
-fails_not_holds (Signed qd) t d g Ordered fails holds = fails
-fails_not_holds (Signed qd) t d g Attainable fails holds = omega arith
-fails_not_holds (Signed qd) t d g Amplified fails holds = fails
-fails_not_holds (Signed qd) t d g Sustained fails holds = fails
-fails_not_holds (Signed qd) t d g Overlapping fails holds = omega arith
+fails_not_holds th t d g rule fails holds = grind arith
 
 -- What an answer says of the counts from low to below high.
 Told : (th : Thresholds) (t d low high : ℕ) → Option Broken → Type 0
@@ -133,25 +86,3 @@ module _ (th : Thresholds) (t d : ℕ) where
       → broken_from th t d g (n + 1 - g) ≡ broken_from th t d (g + 1) (n + 1 - (g + 1))
   broken_later n g most holds =
       let e : n + 1 - g ≡ suc (n + 1 - (g + 1)) = omega arith in rw (e, holds)
-
-figures_given :
-    (th : Thresholds) (n t d h : ℕ) (o : Option Rule) → n - t ≤ h → h ≤ n
-    → MatchOption o (RulesHold th t d h) (FailsFirst th t d h)
-    → FiguresMean th n t d h (unless_broken o (figures_of th n t d h))
-figures_given th n t d h None least most holds = record { least = least; most = most; rules = holds; value = refl }
-figures_given th n t d h (Some rule) least most fails = λ _ _ holds. fails_not_holds th t d h rule fails holds
-
-figures_at_mean : (th : Thresholds) (n t d h : ℕ) → FiguresMean th n t d h (figures_at th n t d h)
-figures_at_mean th n t d h =
-    cond_both (leb (n - t) h && leb h n) (unless_broken (broken_at th t d h) (figures_of th n t d h)) None
-    (FiguresMean th n t d h)
-    (λ e.
-    let parts = and_parts (leb (n - t) h) (leb h n) e in
-    figures_given th n t d h (broken_at th t d h) (leb-true (n - t) h parts.0) (leb-true h n parts.1) (broken_tells th t d h))
-    (λ e least most _.
-    false≢true (sym e ∙ and_from (leb (n - t) h) (leb h n) (le-leb (n - t) h least) (le-leb h n most)))
-
--- Figures are given exactly where the count is in range and the rules hold.
-pub figures_mean :
-    (th : Thresholds) (n t d h : ℕ) (r : Option Figures) → r ≡ figures_at th n t d h → FiguresMean th n t d h r
-figures_mean th n t d h r e = subst (FiguresMean th n t d h) (sym e) (figures_at_mean th n t d h)

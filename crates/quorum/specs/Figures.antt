@@ -1,10 +1,11 @@
 -- What a caster achieves among h honest consoles of n, with at most t Byzantine consoles and d lost copies of a message.
-use Rattle.std.specs.Prelude.{◌≡◌, ℕ, ◌+◌, ◌-◌, ◌*◌, ◌/◌, ◌≤◌, Bool, cond, ◌&&◌, ◌||◌, Some, None, Option, nat_le, nat_lt}
+use Rattle.std.specs.Prelude.{◌≡◌, ℕ, ◌+◌, ◌-◌, ◌*◌, ◌/◌, ◌≤◌, Bool, cond, ◌&&◌, ◌||◌, Some, None, Option, Ok, Err, Result, nat_le, nat_lt}
 use Rattle.quorum.specs.declared.figures.Figures.{Figures}
+use Rattle.quorum.specs.declared.rules.Broken.{Broken}
 use Rattle.quorum.specs.declared.rules.Rule.{Rule}
 use Rattle.quorum.specs.declared.thresholds.Thresholds.{Thresholds}
 use Rattle.quorum.specs.declared.thresholds.Thresholds.TheVariants.{Plain, Signed}
-use Rattle.quorum.specs.Rules.{RulesHold, broken_at}
+use Rattle.quorum.specs.Rules.{Borne, FirstBroken, RulesHold, broken_at, first_broken}
 
 -- So many honest consoles are among any q.
 abbrev pub backing_of : (n h q : ℕ) → ℕ
@@ -23,12 +24,12 @@ abbrev pub overlap : (n t q : ℕ) → Bool
 overlap n t q = nat_lt (n + t) (2 * q)
 
 abbrev pub figures_of : Thresholds → (n t d h : ℕ) → Figures
-figures_of (Plain qd qf single) n t d h =
+figures_of (Plain p) n t d h =
     record {
-      backing = backing_of n h qf;
-      support = support_of d qd qf h;
-      reach = reach_of d qd h;
-      voice = overlap n t qf || (single && overlap n t qd);
+      backing = backing_of n h p.forward;
+      support = support_of d p.deliver p.forward h;
+      reach = reach_of d p.deliver h;
+      voice = overlap n t p.forward || (p.single && overlap n t p.deliver);
     }
 figures_of (Signed qd) n t d h =
     record { backing = backing_of n h qd; support = qd; reach = h - d; voice = overlap n t qd }
@@ -42,6 +43,14 @@ abbrev pub figures_at : Thresholds → (n t d h : ℕ) → Option Figures
 figures_at th n t d h =
     cond (nat_le (n - t) h && nat_le h n) (unless_broken (broken_at th t d h) (figures_of th n t d h)) None
 
+abbrev pub borne_or_broken : Option Broken → Figures → Result Figures Broken
+borne_or_broken None figures = Ok figures
+borne_or_broken (Some broken) figures = Err broken
+
+-- The figures, where the rules hold at every count that the floor may have; else where one fails first.
+abbrev pub bears : Thresholds → (n t d h : ℕ) → Result Figures Broken
+bears th n t d h = borne_or_broken (first_broken th n t d) (figures_of th n t d h)
+
 -- The caster keeps its rules at h, and achieves these figures.
 pub record Achieved (th : Thresholds) (n t d h : ℕ) (figures : Figures) : Type 0 where
   pub least : n - t ≤ h
@@ -53,3 +62,8 @@ pub record Achieved (th : Thresholds) (n t d h : ℕ) (figures : Figures) : Type
 abbrev pub FiguresMean : Thresholds → (n t d h : ℕ) → Option Figures → Type 0
 FiguresMean th n t d h None = n - t ≤ h → h ≤ n → RulesHold th t d h → ⊥
 FiguresMean th n t d h (Some figures) = Achieved th n t d h figures
+
+-- The same where every count that the floor may have is asked of.
+abbrev pub BearingMeans : Thresholds → (n t d h : ℕ) → Result Figures Broken → Type 0
+BearingMeans th n t d h (Ok figures) = Borne th n t d × (figures ≡ figures_of th n t d h)
+BearingMeans th n t d h (Err broken) = FirstBroken th n t d broken

@@ -22,7 +22,7 @@ pub record SignedRules (t d qd g : ℕ) : Type 0 where
   pub witnessed : t < qd
 
 abbrev pub RulesHold : Thresholds → (t d g : ℕ) → Type 0
-RulesHold (Plain qd qf single) t d g = PlainRules t d qd qf g
+RulesHold (Plain p) t d g = PlainRules t d p.deliver p.forward g
 RulesHold (Signed qd) t d g = SignedRules t d qd g
 
 -- The rules hold at every count of honest consoles that n consoles may have.
@@ -51,7 +51,7 @@ signed_broken_at t d qd g =
 
 -- The first rule that fails at g.
 abbrev pub broken_at : Thresholds → (t d g : ℕ) → Option Rule
-broken_at (Plain qd qf single) t d g = plain_broken_at t d qd qf g
+broken_at (Plain p) t d g = plain_broken_at t d p.deliver p.forward g
 broken_at (Signed qd) t d g = signed_broken_at t d qd g
 
 abbrev pub broken_or : ℕ → Option Rule → Option Broken → Option Broken
@@ -67,23 +67,29 @@ broken_from th t d g (suc k) = broken_or g (broken_at th t d g) (broken_from th 
 abbrev pub first_broken : Thresholds → (n t d : ℕ) → Option Broken
 first_broken th n t d = broken_from th t d (n - t) (n + 1 - (n - t))
 
--- The rule fails at g, and those before it hold.
-abbrev pub FailsFirst : Thresholds → (t d g : ℕ) → Rule → Type 0
-FailsFirst (Plain qd qf single) t d g Witnessed = qf ≤ t
-FailsFirst (Plain qd qf single) t d g Ordered = (t < qf) × (qd < qf)
-FailsFirst (Plain qd qf single) t d g Attainable = (t < qf) × (qf ≤ qd) × (g - d < qd)
-FailsFirst (Plain qd qf single) t d g Amplified =
+abbrev pub PlainFailsFirst : (t d qd qf g : ℕ) → Rule → Type 0
+PlainFailsFirst t d qd qf g Witnessed = qf ≤ t
+PlainFailsFirst t d qd qf g Ordered = (t < qf) × (qd < qf)
+PlainFailsFirst t d qd qf g Attainable = (t < qf) × (qf ≤ qd) × (g - d < qd)
+PlainFailsFirst t d qd qf g Amplified =
     (t < qf) × (qf ≤ qd) × (qd ≤ g - d) × ((g - d - qd + qf) * (qd - 1) ≤ g * (qf - 1))
-FailsFirst (Plain qd qf single) t d g Sustained =
+PlainFailsFirst t d qd qf g Sustained =
     (t < qf) × (qf ≤ qd) × (qd ≤ g - d) × (g * (qf - 1) < (g - d - qd + qf) * (qd - 1))
     × ((qd - 1 - t) * (g - d + qf - 1 - (qd - 1 - t)) < g * (qf - 1))
-FailsFirst (Plain qd qf single) t d g Overlapping = ⊥
-FailsFirst (Signed qd) t d g Overlapping = g ≤ 2 * d
-FailsFirst (Signed qd) t d g Attainable = (2 * d < g) × (g - d < qd)
-FailsFirst (Signed qd) t d g Witnessed = (2 * d < g) × (qd ≤ g - d) × (qd ≤ t)
-FailsFirst (Signed qd) t d g Ordered = ⊥
-FailsFirst (Signed qd) t d g Amplified = ⊥
-FailsFirst (Signed qd) t d g Sustained = ⊥
+PlainFailsFirst t d qd qf g Overlapping = ⊥
+
+abbrev pub SignedFailsFirst : (t d qd g : ℕ) → Rule → Type 0
+SignedFailsFirst t d qd g Overlapping = g ≤ 2 * d
+SignedFailsFirst t d qd g Attainable = (2 * d < g) × (g - d < qd)
+SignedFailsFirst t d qd g Witnessed = (2 * d < g) × (qd ≤ g - d) × (qd ≤ t)
+SignedFailsFirst t d qd g Ordered = ⊥
+SignedFailsFirst t d qd g Amplified = ⊥
+SignedFailsFirst t d qd g Sustained = ⊥
+
+-- The rule fails at g, and those before it hold.
+abbrev pub FailsFirst : Thresholds → (t d g : ℕ) → Rule → Type 0
+FailsFirst (Plain p) t d g rule = PlainFailsFirst t d p.deliver p.forward g rule
+FailsFirst (Signed qd) t d g rule = SignedFailsFirst t d qd g rule
 
 -- A rule fails at a count in range, and none fails at a lower one.
 pub record FirstBroken (th : Thresholds) (n t d : ℕ) (b : Broken) : Type 0 where

@@ -10,37 +10,37 @@ use Rattle.quorum.specs.declared.thresholds.Thresholds.TheVariants.{Plain, Signe
 use Rattle.quorum.specs.Figures.{figures_at, figures_of}
 use Rattle.quorum.specs.Fit.{misfit_of}
 use Rattle.quorum.specs.Rules.{first_broken}
-use Rattle.quorum.specs.Standard.{standard_echo, standard_ready}
+use Rattle.quorum.specs.Standard.{plain, standard_echo, standard_ready}
 
 abbrev echo_broken : (n t d : ℕ) → Option Broken
-echo_broken n t d = first_broken (standard_echo n t) n t d
+echo_broken n t d = first_broken (Plain (standard_echo n t)) n t d
 
 abbrev ready_broken : (n t d : ℕ) → Option Broken
-ready_broken n t d = first_broken (standard_ready t d) n t d
+ready_broken n t d = first_broken (Plain (standard_ready t d)) n t d
 
 abbrev broken : (honest : ℕ) → Rule → Option Broken
 broken honest rule = Some (record { honest = honest; rule = rule })
 
 abbrev echo_figures : (n t d h : ℕ) → Option Figures
-echo_figures n t d h = figures_at (standard_echo n t) n t d h
+echo_figures n t d h = figures_at (Plain (standard_echo n t)) n t d h
 
 abbrev ready_figures : (n t d h : ℕ) → Option Figures
-ready_figures n t d h = figures_at (standard_ready t d) n t d h
+ready_figures n t d h = figures_at (Plain (standard_ready t d)) n t d h
 
 abbrev figures : (backing support reach : ℕ) → (voice : Bool) → Option Figures
 figures backing support reach voice = Some (record { backing = backing; support = support; reach = reach; voice = voice })
 
 abbrev misfit : (n t d h : ℕ) → Option Misfit
-misfit n t d h = misfit_of (figures_of (standard_echo n t) n t d h) (figures_of (standard_ready t d) n t d h) d h
+misfit n t d h = misfit_of (figures_of (Plain (standard_echo n t)) n t d h) (figures_of (Plain (standard_ready t d)) n t d h) d h
 
 abbrev signed_misfit : (qd n t d h : ℕ) → Option Misfit
-signed_misfit qd n t d h = misfit_of (figures_of (standard_echo n t) n t d h) (figures_of (Signed qd) n t d h) d h
+signed_misfit qd n t d h = misfit_of (figures_of (Plain (standard_echo n t)) n t d h) (figures_of (Signed qd) n t d h) d h
 
 pub record WorkedFloors : Type 0 where
-  pub of_4_1_0 : (standard_echo 4 1 ≡ Plain 3 2 true) × (standard_ready 1 0 ≡ Plain 3 2 false)
+  pub of_4_1_0 : (standard_echo 4 1 ≡ plain 3 2 true) × (standard_ready 1 0 ≡ plain 3 2 false)
   pub of_4_1_0_at_3 : (echo_figures 4 1 0 3 ≡ figures 1 2 3 true) × (ready_figures 4 1 0 3 ≡ figures 1 2 3 false)
   pub of_4_1_0_at_4 : (echo_figures 4 1 0 4 ≡ figures 2 2 4 true) × (ready_figures 4 1 0 4 ≡ figures 2 2 4 false)
-  pub of_8_1_1 : (standard_echo 8 1 ≡ Plain 5 2 true) × (standard_ready 1 1 ≡ Plain 4 2 false)
+  pub of_8_1_1 : (standard_echo 8 1 ≡ plain 5 2 true) × (standard_ready 1 1 ≡ plain 4 2 false)
   pub of_8_1_1_at_7 : (echo_figures 8 1 1 7 ≡ figures 1 3 5 true) × (ready_figures 8 1 1 7 ≡ figures 1 2 6 false)
   -- too many Byzantine consoles, too many lost copies, too few consoles
   pub of_3_1_0 : echo_broken 3 1 0 ≡ broken 2 Attainable

@@ -1,26 +1,47 @@
 // The figures of a caster: what it achieves at a count of honest consoles.
-ghost use Rattle.std.specs.Prelude.{◌≡◌, ◌-◌, ◌≤◌, None};
-ghost use Rattle.quorum.specs.Figures.{FiguresMean, figures_at, figures_of, overlap};
-ghost use Rattle.quorum.specs.Rules.{PlainRules, SignedRules, broken_at};
+ghost use Rattle.std.specs.Prelude.{◌≡◌, ◌≤◌, None};
+ghost use Rattle.quorum.specs.Figures.{BearingMeans, FiguresMean, bears, figures_at, figures_of, overlap};
+ghost use Rattle.quorum.specs.Rules.{PlainRules, RulesHold, SignedRules};
 ghost use Rattle.quorum.specs.Waves.{Backs, Positive, Reaches, Supports, Voices};
+ghost use Rattle.quorum.specs.declared.thresholds.Thresholds.TheVariants.{Plain, Signed};
 
+use crate::composition::Composition;
 use crate::counts::Counts;
-use crate::thresholds::Thresholds;
+use crate::rules::Broken;
+use crate::thresholds::{PlainThresholds, Thresholds};
+use std::fmt;
 
-// What a caster achieves at a count of honest consoles.
+/// What a caster achieves at a count of honest consoles.
 #[derive(Clone, Copy, PartialEq, Eq, Debug)]
 pub struct Figures {
-    // So many honest consoles have cast a number that is delivered.
+    /// So many honest consoles have cast a number that is delivered.
     pub backing: usize,
-    // A number that so many honest consoles cast, and no other, comes to be delivered.
+    /// A number that so many honest consoles cast, and no other, comes to be delivered.
     pub support: usize,
-    // So many honest consoles come to deliver, once one has.
+    /// So many honest consoles come to deliver, once one has.
     pub reach: usize,
-    // No two numbers are delivered in a session.
+    /// No two numbers are delivered in a session.
     pub voice: bool,
 }
 
+impl fmt::Display for Figures {
+    fn fmt<W: fmt::Write>(&self, f: &mut fmt::Formatter<W>) -> fmt::Result {
+        let Figures {
+            backing,
+            support,
+            reach,
+            voice,
+        } = *self;
+        let voice = if voice { "yes" } else { "no" };
+        write!(
+            f,
+            "backing {backing} support {support} reach {reach} voice {voice}"
+        )
+    }
+}
+
 impl Thresholds {
+    // Counts and an honest count apart: one that the floor cannot have is answered too.
     pub fn figures(&self, counts: Counts, honest: usize) -> Option<Figures>
         ensures answers { result ≡ figures_at self.now counts.consoles counts.byzantine counts.lost honest }
         ensures means { FiguresMean self.now counts.consoles counts.byzantine counts.lost honest result }
@@ -30,59 +51,61 @@ impl Thresholds {
         ensures reaches { Reaches }
         ensures voices { Voices }
     {
-        let consoles = counts.consoles();
-        let least = consoles - counts.max_byzantine();
-        if honest < least || consoles < honest || self.broken_at(counts, honest).is_some() {
-            return None;
-        }
-        Some(self.figures_within(counts, honest))
+        let floor = counts.with_honest(honest)?;
+        self.keep(floor).ok()?;
+        Some(self.figures_within(floor))
     }
 
-    fn figures_within(&self, counts: Counts, honest: usize) -> Figures
-        requires least { counts.consoles - counts.byzantine ≤ honest }
-        requires most { honest ≤ counts.consoles }
-        requires unbroken { broken_at self.now counts.byzantine counts.lost honest ≡ None }
-        ensures { result ≡ figures_of self.now counts.consoles counts.byzantine counts.lost honest }
+    /// The figures, if no rule fails at any count of honest consoles that the floor may have.
+    pub fn bear(&self, floor: Composition) -> Result<Figures, Broken>
+        ensures answers { result ≡ bears self.now floor.counts.consoles floor.counts.byzantine floor.counts.lost floor.honest }
+        ensures means { BearingMeans self.now floor.counts.consoles floor.counts.byzantine floor.counts.lost floor.honest result }
+    {
+        match self.broken(floor.counts()) {
+            Some(broken) => Err(broken),
+            None => Ok(self.figures_within(floor)),
+        }
+    }
+
+    fn figures_within(&self, floor: Composition) -> Figures
+        requires { RulesHold self.now floor.counts.byzantine floor.counts.lost floor.honest }
+        ensures { result ≡ figures_of self.now floor.counts.consoles floor.counts.byzantine floor.counts.lost floor.honest }
     {
         match *self {
-            Thresholds::Plain {
-                deliver,
-                forward,
-                single,
-            } => plain_figures(counts, deliver, forward, single, honest),
-            Thresholds::Signed { deliver } => signed_figures(counts, deliver, honest),
+            Thresholds::Plain(plain) => plain.figures_within(floor),
+            Thresholds::Signed { deliver } => signed_figures(floor, deliver),
         }
     }
 }
 
-fn plain_figures(
-    counts: Counts,
-    deliver: usize,
-    forward: usize,
-    single: bool,
-    honest: usize,
-) -> Figures
-    requires least { counts.consoles - counts.byzantine ≤ honest }
-    requires most { honest ≤ counts.consoles }
-    requires rules { PlainRules counts.byzantine counts.lost deliver forward honest }
-    ensures { result ≡ figures_of (Thresholds.Plain deliver forward single) counts.consoles counts.byzantine counts.lost honest }
-{
-    let consoles = counts.consoles();
-    let lost = counts.max_lost();
-    Figures {
-        backing: forward + honest - consoles,
-        support: honest * (forward - 1) / (honest - lost - deliver + forward) + 1,
-        reach: honest - honest * lost / (honest - deliver + 1),
-        voice: overlaps(counts, forward) || (single && overlaps(counts, deliver)),
+impl PlainThresholds {
+    fn figures_within(self, floor: Composition) -> Figures
+        requires { PlainRules floor.counts.byzantine floor.counts.lost self.deliver self.forward floor.honest }
+        ensures { result ≡ figures_of (Plain self) floor.counts.consoles floor.counts.byzantine floor.counts.lost floor.honest }
+    {
+        let PlainThresholds {
+            deliver,
+            forward,
+            single,
+        } = self;
+        let counts = floor.counts();
+        let honest = floor.honest();
+        let lost = counts.max_lost();
+        Figures {
+            backing: forward + honest - counts.consoles(),
+            support: honest * (forward - 1) / (honest - lost - deliver + forward) + 1,
+            reach: honest - honest * lost / (honest - deliver + 1),
+            voice: overlaps(counts, forward) || (single && overlaps(counts, deliver)),
+        }
     }
 }
 
-fn signed_figures(counts: Counts, deliver: usize, honest: usize) -> Figures
-    requires least { counts.consoles - counts.byzantine ≤ honest }
-    requires most { honest ≤ counts.consoles }
-    requires rules { SignedRules counts.byzantine counts.lost deliver honest }
-    ensures { result ≡ figures_of (Thresholds.Signed deliver) counts.consoles counts.byzantine counts.lost honest }
+fn signed_figures(floor: Composition, deliver: usize) -> Figures
+    requires { SignedRules floor.counts.byzantine floor.counts.lost deliver floor.honest }
+    ensures { result ≡ figures_of (Signed deliver) floor.counts.consoles floor.counts.byzantine floor.counts.lost floor.honest }
 {
+    let counts = floor.counts();
+    let honest = floor.honest();
     Figures {
         backing: deliver + honest - counts.consoles(),
         support: deliver,

@@ -5,14 +5,11 @@ use lib.Arith.{bin_ind}
 use lib.Bits.{bit_and, bit_or, and_step, or_step}
 use Rattle.std.proofs.lemmas.Bool.{eqb-true, eqb-false, eq-eqb, ne_eqb, both_ways, cases_Bool, cases_lt}
 use Rattle.std.proofs.lemmas.Bool.Decides.{nat_tests}
-use Rattle.sets.specs.Members.{bit, has, Within}
+use Rattle.std.specs.Int.{bit_at}
+use Rattle.std.proofs.lemmas.Nat.Bits.{bit_at-lt, bit_at-suc, bit_at-zero, bit_at_and, bit_at_lowest, bit_at_or}
+use Rattle.sets.specs.Members.{has, Within}
 
 -- ---- digits
-
-pub bit_lt : (m k : ℕ) → bit m k < 2
-unfolding bit
-bit_lt m zero = omega arith
-bit_lt m (suc k) = bit_lt (m / 2) k
 
 -- The lowest digit of an intersection or a union, and the digits above it.
 pub and_low : (a b : ℕ) → bit_and a b % 2 ≡ min (a % 2) (b % 2)
@@ -27,16 +24,6 @@ or_low a b = omega (arith, or_step a b)
 pub or_half : (a b : ℕ) → bit_or a b / 2 ≡ bit_or (a / 2) (b / 2)
 or_half a b = omega (arith, or_step a b)
 
-bit_of_and : (a b k : ℕ) → bit (bit_and a b) k ≡ min (bit a k) (bit b k)
-unfolding bit
-bit_of_and a b zero = and_low a b
-bit_of_and a b (suc k) = ap (λ (m : ℕ). bit m k) (and_half a b) ∙ bit_of_and (a / 2) (b / 2) k
-
-bit_of_or : (a b k : ℕ) → bit (bit_or a b) k ≡ max (bit a k) (bit b k)
-unfolding bit
-bit_of_or a b zero = or_low a b
-bit_of_or a b (suc k) = ap (λ (m : ℕ). bit m k) (or_half a b) ∙ bit_of_or (a / 2) (b / 2) k
-
 -- ---- members
 
 min_is_and : (x y : ℕ) → x < 2 → y < 2 → eqb (min x y) 1 ≡ (eqb x 1 && eqb y 1)
@@ -47,38 +34,38 @@ max_is_or x y h l = grind (arith, nat_tests)
 
 pub has_and : (a b k : ℕ) → has (bit_and a b) k ≡ (has a k && has b k)
 unfolding has
-has_and a b k = ap (λ (d : ℕ). eqb d 1) (bit_of_and a b k) ∙ min_is_and (bit a k) (bit b k) (bit_lt a k) (bit_lt b k)
+has_and a b k = ap (λ (d : ℕ). eqb d 1) (bit_at_and a b k) ∙ min_is_and (bit_at a k) (bit_at b k) (bit_at-lt a k) (bit_at-lt b k)
 
 pub has_or : (a b k : ℕ) → has (bit_or a b) k ≡ (has a k || has b k)
 unfolding has
-has_or a b k = ap (λ (d : ℕ). eqb d 1) (bit_of_or a b k) ∙ max_is_or (bit a k) (bit b k) (bit_lt a k) (bit_lt b k)
+has_or a b k = ap (λ (d : ℕ). eqb d 1) (bit_at_or a b k) ∙ max_is_or (bit_at a k) (bit_at b k) (bit_at-lt a k) (bit_at-lt b k)
 
 -- The digits above the lowest are those of the half.
 pub has_half : (m k : ℕ) → has (m / 2) k ≡ has m (suc k)
-unfolding has bit
-has_half m k = refl
+unfolding has
+has_half m k = ap (λ (d : ℕ). eqb d 1) (sym (bit_at-suc m k))
 
 -- 0 is a member of the odd masks.
+pub has_first : (m : ℕ) → has m 0 ≡ eqb (m % 2) 1
+unfolding has
+has_first m = ap (λ (d : ℕ). eqb d 1) (bit_at_lowest m)
+
 pub has_odd : (m : ℕ) → m % 2 ≡ 1 → has m 0 ≡ true
-unfolding has bit
-has_odd m e = eq-eqb _ _ e
+has_odd m e = has_first m ∙ eq-eqb _ _ e
 
 pub has_even : (m : ℕ) → m % 2 ≡ 0 → has m 0 ≡ false
-unfolding has bit
-has_even m e = ne_eqb _ _ (λ d. omega arith)
+has_even m e = has_first m ∙ ne_eqb _ _ (λ d. omega arith)
 
 pub odd_has : (m : ℕ) → has m 0 ≡ true → m % 2 ≡ 1
-unfolding has bit
-odd_has m e = eqb-true _ _ e
+odd_has m e = eqb-true _ _ (sym (has_first m) ∙ e)
 
 pub even_has : (m : ℕ) → has m 0 ≡ false → m % 2 ≡ 0
-unfolding has bit
-even_has m e = let not_odd : m % 2 ≡ 1 → ⊥ = eqb-false _ _ e in omega arith
+even_has m e = let not_odd : m % 2 ≡ 1 → ⊥ = eqb-false _ _ (sym (has_first m) ∙ e) in omega arith
 
 -- The empty mask has no member, and no other mask has none.
 pub has_zero : (k : ℕ) → has 0 k ≡ false
-has_zero zero = has_even 0 refl
-has_zero (suc k) = sym (has_half 0 k) ∙ has_zero k
+unfolding has
+has_zero k = ap (λ (d : ℕ). eqb d 1) (bit_at-zero k)
 
 pub no_members : (m : ℕ) → ((k : ℕ) → has m k ≡ false) → m ≡ 0
 no_members =
@@ -86,12 +73,10 @@ no_members =
     (λ m half none. omega (arith, half (λ k. has_half m k ∙ none (suc k)), even_has m (none 0)))
 
 pub has_low : (a b : ℕ) → a % 2 ≡ b % 2 → has a 0 ≡ has b 0
-unfolding has bit
-has_low a b e = ap (λ (d : ℕ). eqb d 1) e
+has_low a b e = has_first a ∙ ap (λ (d : ℕ). eqb d 1) e ∙ sym (has_first b)
 
 same_low : (a b : ℕ) → has a 0 ≡ has b 0 → a % 2 ≡ b % 2
-unfolding has bit
-same_low a b e = grind (arith, nat_tests)
+same_low a b e = let tests : eqb (a % 2) 1 ≡ eqb (b % 2) 1 = sym (has_first a) ∙ e ∙ has_first b in grind (arith, nat_tests)
 
 -- Two masks with the same members are equal.
 pub same_members : (a b : ℕ) → ((k : ℕ) → has a k ≡ has b k) → a ≡ b

@@ -1,20 +1,23 @@
 -- A mask that one member joins or leaves.
-use Rattle.std.proofs.Common.{◌≡◌, ℕ, zero, suc, ◌-◌, ◌/◌, ◌%◌, ◌^◌, ◌≤◌, Bool, true, false, cond, not, ◌&&◌, ◌||◌, eqb, sym, refl, ap, ◌∙◌, ap₂, arith}
+use Rattle.std.proofs.Common.{◌≡◌, ℕ, zero, suc, ◌-◌, ◌/◌, ◌%◌, ◌^◌, ◌≤◌, Bool, true, false, cond, not, ◌&&◌, ◌||◌, eqb, sym, refl, ap, ◌∙◌, ap₂, ⊎_elim, arith}
 use native.Mathlib.Nat.{two-pow-succ, sub-zero}
 use lib.Bits.{bit_and, bit_or}
 use lib.Dec.{eqb-zero-suc, eqb-suc-zero, eqb-suc-suc}
-use Rattle.std.proofs.lemmas.Bool.{eqb-true}
+use Rattle.std.specs.Int.{bit_at}
+use Rattle.std.proofs.lemmas.Bool.{cases_eq, eq-eqb, eqb-true, ne_eqb}
+use Rattle.std.proofs.lemmas.Nat.Bits.{bit_at-pow_other, bit_at-pow_same}
 use Rattle.sets.specs.Members.{has}
-use Rattle.sets.proofs.Bits.{has_and, has_or, has_half, has_odd, has_even, odd_has, has_low, has_zero, same_members}
+use Rattle.sets.proofs.Bits.{has_and, has_or, has_half, has_even, odd_has, has_low, has_zero, same_members}
 
 -- The mask of one member.
 pub has_power : (k j : ℕ) → has (2 ^ k) j ≡ eqb j k
-has_power zero zero = has_odd 1 refl
-has_power zero (suc j) = sym (has_half 1 j) ∙ has_zero j ∙ sym (eqb-suc-zero j)
-has_power (suc k) zero = has_even (2 ^ suc k) (omega (arith, two-pow-succ k)) ∙ sym (eqb-zero-suc k)
-has_power (suc k) (suc j) =
-    let half : 2 ^ suc k / 2 ≡ 2 ^ k = omega (arith, two-pow-succ k) in
-    sym (has_half (2 ^ suc k) j) ∙ ap (λ (m : ℕ). has m j) half ∙ has_power k j ∙ sym (eqb-suc-suc j k)
+unfolding has
+has_power k j =
+    ⊎_elim
+    (λ same.
+    ap (λ (i : ℕ). eqb (bit_at (2 ^ k) i) 1) same ∙ ap (λ (d : ℕ). eqb d 1) (bit_at-pow_same k) ∙ sym (eq-eqb j k same))
+    (λ other. ap (λ (d : ℕ). eqb d 1) (bit_at-pow_other k j other) ∙ sym (ne_eqb j k other))
+    (cases_eq j k)
 
 -- Member k joins.
 pub has_put : (m k j : ℕ) → has (bit_or m (2 ^ k)) j ≡ (has m j || eqb j k)

@@ -6,9 +6,10 @@ use lib.Bits.{bit_and, bit_or, and_le_l, or_lt, or_add_and}
 use lib.Count.{ones, ones_in, ones_step, ones-le}
 use Rattle.std.proofs.lemmas.Bool.{eq-eqb}
 use Rattle.std.proofs.lemmas.Bool.Decides.{nat_tests}
+use Rattle.std.proofs.lemmas.Nat.{zero_from_ones}
 use Rattle.sets.specs.Counting.{sum, count}
-use Rattle.sets.specs.Members.{bit, has, Within}
-use Rattle.sets.proofs.Bits.{and_low, and_half, or_low, or_half, has_and, has_or, has_half, odd_has, lt_from_within}
+use Rattle.sets.specs.Members.{has, Within}
+use Rattle.sets.proofs.Bits.{and_low, and_half, or_low, or_half, has_and, has_first, has_or, has_half, odd_has, lt_from_within}
 use Rattle.sets.proofs.Counts.{count_cong}
 use Rattle.sets.proofs.OneMember.{has_power, and_power, off_half, off_low}
 use Rattle.sets.proofs.Sums.{sum_front}
@@ -20,8 +21,7 @@ unfolding ones ones_in
 ones_zero = refl
 
 low_tick : (m : ℕ) → cond (has m 0) 1 0 ≡ m % 2
-unfolding has bit
-low_tick m = grind (arith, nat_tests)
+low_tick m = rw (has_first m) (grind (arith, nat_tests))
 
 -- A mask of w digits has as many set digits as members below w.
 pub ones_count : (w m : ℕ) → m < 2 ^ w → ones m ≡ count w (has m)
@@ -77,17 +77,11 @@ ones_and_le =
       ap ones (and_half a b),
     ))
 
--- A mask of no members is 0.
-pub ones_none : (m : ℕ) → ones m ≡ 0 → m ≡ 0
-ones_none =
-    bin_ind (λ (m : ℕ). ones m ≡ 0 → m ≡ 0) (λ _. refl)
-    (λ m half e. omega (arith, half (omega (arith, ones_step m)), ones_step m))
-
 -- An intersection as large as a mask is the mask.
 pub and_whole : (a b : ℕ) → ones b ≤ ones (bit_and a b) → bit_and a b ≡ b
 and_whole =
     bin_ind (λ (a : ℕ). (b : ℕ) → ones b ≤ ones (bit_and a b) → bit_and a b ≡ b)
-    (λ b h. sym (ones_none b (omega (arith, ones_zero))))
+    (λ b h. sym (zero_from_ones b (omega (arith, ones_zero))))
     (λ a half b h.
     let shared : ones (bit_and a b) ≡ bit_and a b % 2 + ones (bit_and (a / 2) (b / 2)) =
     ones_step (bit_and a b) ∙ ap (λ (m : ℕ). bit_and a b % 2 + ones m) (and_half a b) in

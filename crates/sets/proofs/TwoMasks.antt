@@ -1,13 +1,13 @@
 -- A mask beside another: what one has outside the other, and subsets.
-use Rattle.std.proofs.Common.{◌≡◌, ℕ, zero, suc, ◌+◌, ◌-◌, ◌/◌, ◌%◌, ◌^◌, ◌<◌, min, true, not, ◌&&◌, eqb, sym, refl, ap, ◌∙◌, arith}
+use Rattle.std.proofs.Common.{◌≡◌, ℕ, zero, suc, ◌+◌, ◌-◌, ◌/◌, ◌%◌, ◌^◌, ◌<◌, min, Bool, true, not, ◌&&◌, eqb, sym, refl, ap, ap₂, ◌∙◌, arith}
 use native.Mathlib.Nat.{two-pow-succ}
 use lib.Arith.{bin_ind}
 use lib.Bits.{bit_and, and_step, and_le_l, and_zero_l}
 use lib.Count.{ones, ones_step}
 use Rattle.std.proofs.lemmas.Bool.{and_parts}
 use Rattle.std.proofs.lemmas.Bool.Decides.{nat_tests}
-use Rattle.sets.specs.Members.{bit, has}
-use Rattle.sets.proofs.Bits.{has_and, same_members, and_low, and_half}
+use Rattle.sets.specs.Members.{has}
+use Rattle.sets.proofs.Bits.{has_and, has_first, has_half, same_members, and_low, and_half}
 
 -- What m has outside d is m without what it shares with d.
 pub and_not : (w m d : ℕ) → m < 2 ^ w → d < 2 ^ w → bit_and m ((2 ^ w - 1) - d) ≡ m - bit_and m d
@@ -29,9 +29,12 @@ low_is_rest x y h l = grind (arith, nat_tests)
 
 -- The members of m that d has not.
 pub has_rest : (m d k : ℕ) → has (m - bit_and m d) k ≡ (has m k && not (has d k))
-unfolding has bit
-has_rest m d zero = ap (λ (x : ℕ). eqb x 1) (rest_low m d) ∙ low_is_rest (m % 2) (d % 2) (omega arith) (omega arith)
-has_rest m d (suc k) = ap (λ (x : ℕ). has x k) (rest_half m d) ∙ has_rest (m / 2) (d / 2) k
+has_rest m d zero =
+    has_first (m - bit_and m d) ∙ ap (λ (x : ℕ). eqb x 1) (rest_low m d) ∙ low_is_rest (m % 2) (d % 2) (omega arith) (omega arith)
+    ∙ ap₂ (λ (a b : Bool). a && not b) (sym (has_first m)) (sym (has_first d))
+has_rest m d (suc k) =
+    sym (has_half (m - bit_and m d) k) ∙ ap (λ (x : ℕ). has x k) (rest_half m d) ∙ has_rest (m / 2) (d / 2) k
+    ∙ ap₂ (λ (a b : Bool). a && not b) (has_half m k) (has_half d k)
 
 -- How many they are.
 pub ones_rest : (m d : ℕ) → ones (m - bit_and m d) + ones (bit_and m d) ≡ ones m

@@ -1,16 +1,12 @@
 -- Sets of consoles as masks: console k is a member where digit k of the mask is set.
-use Rattle.std.specs.Prelude.{◌≡◌, ℕ, zero, suc, ◌+◌, ◌-◌, ◌/◌, ◌%◌, ◌^◌, ◌<◌, min, Bool, true, false, if◌then◌else◌, not, ◌&&◌, Some, None, Option, MatchOption, ◌==◌, bit_and, bit_or, count_ones, nat_lt}
+use Rattle.std.specs.Prelude.{◌≡◌, ℕ, ◌+◌, ◌-◌, ◌^◌, ◌<◌, min, Bool, true, false, if◌then◌else◌, not, ◌&&◌, Some, None, Option, MatchOption, ◌==◌, bit_and, bit_or, count_ones, nat_lt}
+use Rattle.std.specs.Int.{bit_at}
 use Rattle.std.specs.Int.Count.{count_trailing_zeros}
 use Rattle.sets.specs.declared.console_set.ConsoleSet.{ConsoleSet}
 
--- digit k of m, 0 or 1
-unfoldable pub bit : ℕ → ℕ → ℕ
-bit m zero = m % 2
-bit m (suc k) = bit (m / 2) k
-
--- k is a member of the mask m
+-- k is a member of the mask m: its digit is 1
 unfoldable pub has : ℕ → ℕ → Bool
-has m k = bit m k == 1
+has m k = bit_at m k == 1
 
 -- every member of m lies below n
 abbrev pub Within : ℕ → ℕ → Type 0

@@ -6,7 +6,8 @@ ghost use Rattle.sets.specs.Members.{has, digit_of, Within, Lowest, subset, firs
 // The consoles are numbered below this.
 const CONSOLES: usize = 32;
 
-// A set of consoles.
+/// A set of consoles.
+// Clauses read its mask: seen as a bare number it would say no more, and lose its name where tables hold sets.
 #[derive(Clone, Copy, PartialEq, Eq, Debug)]
 pub struct ConsoleSet {
     mask: u32,
@@ -27,7 +28,7 @@ fn digits_below(n: usize) -> u32
 }
 
 impl ConsoleSet {
-    // The set of no console.
+    /// The set of no console.
     pub const fn empty() -> ConsoleSet
         ensures set { result ≡ empty_set }
         ensures members { (k : ℕ) → has result.mask k ≡ false }
@@ -36,7 +37,7 @@ impl ConsoleSet {
         ConsoleSet { mask: 0 }
     }
 
-    // The consoles below `n`.
+    /// The consoles below `n`.
     pub fn first_n(n: usize) -> ConsoleSet
         ensures set { result ≡ first_consoles n }
         ensures members { (k : ℕ) → has result.mask k ≡ (nat_lt k n && nat_lt k 32) }
@@ -56,7 +57,7 @@ impl ConsoleSet {
         self.mask & digit(console) != 0
     }
 
-    // The set with `console`, if there is such a console.
+    /// The set with `console`, if there is such a console.
     pub fn with(self, console: usize) -> ConsoleSet
         ensures set { result ≡ with_console self console }
         ensures members { (k : ℕ) → has result.mask k ≡ (has self.mask k || (k == console && nat_lt console 32)) }
@@ -69,7 +70,7 @@ impl ConsoleSet {
         }
     }
 
-    // The set without `console`.
+    /// The set without `console`.
     pub fn without(self, console: usize) -> ConsoleSet
         ensures set { result ≡ without_console self console }
         ensures members { (k : ℕ) → has result.mask k ≡ (has self.mask k && not (k == console)) }
@@ -103,7 +104,7 @@ impl ConsoleSet {
         }
     }
 
-    // The members of this set that are not in the other.
+    /// The members of this set that are not in the other.
     pub fn difference(self, other: ConsoleSet) -> ConsoleSet
         ensures set { result ≡ difference_set self other }
         ensures members { (k : ℕ) → has result.mask k ≡ (has self.mask k && not (has other.mask k)) }
@@ -131,17 +132,18 @@ impl ConsoleSet {
         self.mask == 0
     }
 
-    // How many consoles the set has.
+    /// How many consoles the set has.
     pub fn len(self) -> usize
         ensures size { result ≡ count_ones self.mask }
         ensures counted { result ≡ count 32 (has self.mask) }
         ensures bounded { result ≤ 32 }
         ensures laws { CountingLaws }
     {
+        // `as`, since no `From` widens a `u32` to `usize`, and a `TryFrom` would answer an error that cannot come.
         self.mask.count_ones() as usize
     }
 
-    // The lowest console of the set.
+    /// The lowest console of the set.
     pub fn first(self) -> Option<usize>
         ensures answer { result ≡ first_member self.mask }
         ensures lowest { MatchOption result (self ≡ empty_set) (λ k. (k < 32) × Lowest self.mask k) }
@@ -149,6 +151,7 @@ impl ConsoleSet {
         if self.is_empty() {
             None
         } else {
+            // `as`, as in `len`.
             Some(self.mask.trailing_zeros() as usize)
         }
     }

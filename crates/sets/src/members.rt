@@ -5,7 +5,7 @@ ghost use Rattle.std.specs.Iterator.{at_most};
 
 use crate::console_set::ConsoleSet;
 
-// A walk through a set in ascending order: `rest` is what is still to come.
+/// A walk through a set in ascending order: `rest` is what is still to come.
 #[derive(Clone, Drop)]
 pub struct Members {
     rest: ConsoleSet,

@@ -1,8 +1,8 @@
 // What a card is made of and answers.
-ghost use Rattle.std.specs.Prelude.{◌≡◌, ◌≤◌, length, take, Decides};
-ghost use Rattle.floor.specs.Cards.{card_bytes, card_refusal, card_planned, same_card, same_card_equivalence};
+ghost use Rattle.std.specs.Prelude.{◌≡◌, ◌≤◌, ◌↔◌, IsTrue, length};
+ghost use Rattle.floor.specs.Cards.{card_refusal, same_card, same_card_equivalence};
+ghost use Rattle.floor.specs.Places.{filled};
 ghost use Rattle.floor.specs.Refusals.{answer};
-ghost use Rattle.std.specs.Str.{bytes_eq};
 
 use super::{Card, CardPlan, MAX_CARD_LEN};
 use crate::payload::Payload;
@@ -10,10 +10,10 @@ use crate::refusal::Refusal;
 
 impl Card {
     pub fn plan(bytes: &[u8]) -> Result<CardPlan, Refusal>
-        ensures { card_planned result ≡ answer (card_refusal bytes.now) bytes.now }
+        ensures { result ≡ answer (card_refusal bytes.now) bytes.now }
     {
         let len = bytes.len();
-        if len < 1 || len > MAX_CARD_LEN {
+        if !(1..=MAX_CARD_LEN).contains(&len) {
             return Err(Refusal::OutOfRange);
         }
         Ok(CardPlan {
@@ -24,34 +24,30 @@ impl Card {
         })
     }
 
+    // No `From`, since making in two calls, `plan` and `new`, is a rule of the project.
     pub fn new(plan: CardPlan) -> Card
-        ensures { result ≡ plan.card }
+        ensures { result ≡ plan }
     {
         plan.card
     }
 
     pub fn as_bytes(&self) -> &[u8]
-        ensures { result.now ≡ card_bytes self.now }
+        ensures bytes { result.now ≡ self.now }
+        ensures some { 1 ≤ length result.now }
+        ensures fits { length result.now ≤ 16 }
     {
-        &self.places[0..self.len]
+        &self.places[..self.len]
     }
 }
 
 // The bytes, and zeros behind them.
 fn padded(bytes: &[u8]) -> [u8; MAX_CARD_LEN]
     requires { length bytes.now ≤ 16 }
-    ensures { take (length bytes.now) result ≡ bytes.now }
+    ensures { result ≡ filled bytes.now }
 {
     let mut places = [0; MAX_CARD_LEN];
-    places[0..bytes.len()].copy_from_slice(bytes);
+    places[..bytes.len()].copy_from_slice(bytes);
     places
-}
-
-fn same(a: &[u8], b: &[u8]) -> bool
-    ensures tested { result ≡ bytes_eq a.now b.now }
-    ensures equal { Decides result (a.now ≡ b.now) }
-{
-    a == b
 }
 
 // Two cards are alike when their bytes are the same.
@@ -62,8 +58,8 @@ impl Payload for Card {
 
     fn alike(&self, other: &Card) -> bool
         ensures tested { result ≡ same_card self.now other.now }
-        ensures equal { Decides result (card_bytes self.now ≡ card_bytes other.now) }
+        ensures equal { IsTrue result ↔ (self.now ≡ other.now) }
     {
-        same(self.as_bytes(), other.as_bytes())
+        self.as_bytes() == other.as_bytes()
     }
 }

@@ -1,21 +1,20 @@
 // What a draft takes.
 ghost use Rattle.std.specs.Prelude.{◌≡◌, false, is_ok};
-ghost use Rattle.floor.specs.Drafts.{state_of, mark_checks, mark_answer, after_mark, enter_checks, enter_answer, after_enter};
+ghost use Rattle.floor.specs.Drafts.{mark_checks, mark_answer, after_mark, enter_checks, enter_answer, after_enter};
 ghost use Rattle.floor.specs.Refusals.{Rising};
 
 use super::Draft;
 use crate::refusal::Refusal;
-use crate::session::{MAX_SESSIONS, Session};
-
-const MAX_SEQUENCE: usize = 65_535;
+use crate::session::Session;
 
 impl Draft {
-    // Marks a console as Byzantine.
+    /// Marks a console as Byzantine.
+    #[tactic(auto, using(sets::proofs::Operations::with_member_lt, sets::proofs::Operations::ones_with_le))]
     pub fn mark(&mut self, console: usize) -> Result<(), Refusal>
-        ensures answered { result ≡ mark_answer (state_of self.old) console }
-        ensures left { state_of self.new ≡ after_mark (state_of self.old) console }
+        ensures answered { result ≡ mark_answer self.old console }
+        ensures left { self.new ≡ after_mark self.old console }
         ensures kept { is_ok result ≡ false → self.new ≡ self.old }
-        ensures rising { Rising (mark_checks (state_of self.old) console) }
+        ensures rising { Rising (mark_checks self.old console) }
     {
         if console >= self.counts.consoles() {
             return Err(Refusal::OutOfRange);
@@ -30,27 +29,25 @@ impl Draft {
         Ok(())
     }
 
-    // Enters a session, and answers its number.
+    /// Enters a session, and answers its number.
     pub fn enter(&mut self, owner: usize, sequence: usize) -> Result<usize, Refusal>
-        ensures answered { result ≡ enter_answer (state_of self.old) owner sequence }
-        ensures left { state_of self.new ≡ after_enter (state_of self.old) owner sequence }
+        ensures answered { result ≡ enter_answer self.old owner sequence }
+        ensures left { self.new ≡ after_enter self.old owner sequence }
         ensures kept { is_ok result ≡ false → self.new ≡ self.old }
-        ensures rising { Rising (enter_checks (state_of self.old) owner sequence) }
+        ensures rising { Rising (enter_checks self.old owner sequence) }
     {
-        if owner >= self.counts.consoles() || sequence > MAX_SEQUENCE {
+        if owner >= self.counts.consoles() {
             return Err(Refusal::OutOfRange);
         }
-        let session = Session {
-            owner,
-            sequence: sequence as u16,
-        };
-        if self.sessions.contains(session) {
+        let sequence = u16::try_from(sequence).map_err(|_| Refusal::OutOfRange)?;
+        let session = Session { owner, sequence };
+        if self.sessions.contains(&session) {
             return Err(Refusal::SessionTwice);
         }
-        let number = self.sessions.len();
-        if number >= MAX_SESSIONS {
+        if self.sessions.is_full() {
             return Err(Refusal::SessionsFull);
         }
+        let number = self.sessions.len();
         self.sessions.push(session);
         Ok(number)
     }

@@ -33,10 +33,7 @@ impl Caster for PlainCaster {
         session: usize,
         number: usize,
     ) -> Result<Option<Delivery>, Refusal> {
-        let vote = self.vote(console, session, number)?;
-        if let Some(refusal) = self.against_cast(vote) {
-            return Err(refusal);
-        }
+        let vote = self.to_cast(console, session, number)?;
         self.take_cast(vote);
         Ok(None)
     }
@@ -72,10 +69,10 @@ impl Caster for PlainCaster {
     }
 
     fn figures(&self) -> Figures {
-        self.plan.figures
+        self.plan.figures()
     }
 
     fn floor(&self) -> FloorFigures {
-        self.plan.floor
+        self.plan.floor()
     }
 }

@@ -7,6 +7,7 @@ use super::Counts;
 impl Counts {
     pub const MAX_CONSOLES: usize = 32;
 
+    // Three numbers as they are handed in: a struct of unchecked ones would be built for this call alone.
     pub fn new(consoles: usize, byzantine: usize, lost: usize) -> Option<Counts>
         ensures { counts_made result ≡ counts_answer consoles byzantine lost }
     {

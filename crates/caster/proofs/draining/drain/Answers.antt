@@ -8,12 +8,6 @@ pub loop-event-init : goal.loop-event-init
 loop-event-init g c =
     let s = c.args.caster.now in (∣ none s ∣₁, omega arith, g.C.Caster.lasting.same s)
 
-pub overflow_add-steps : goal.overflow_add-steps
-overflow_add-steps g c =
-    let first = c.args.caster.now in
-    let laws = g.C.Caster.laws in
-    omega (arith, c.loop-event.invariant.1, (laws.sound first).few_steps, (laws.sound first).in_range.few_sessions)
-
 pub loop-event-preserved : goal.loop-event-preserved
 loop-event-preserved g c =
     let first = c.args.caster.now in

@@ -3,11 +3,8 @@ use Rattle.fitting.specs.Fitting.{standard_obstacle}
 use Rattle.fitting.proofs.Opening.{opening}
 use Rattle.fitting.proofs.standard.standard_fit.Goals as goal
 
-pub returns : goal.returns
-returns c =
-    let counts = c.args.counts in
-    let none_else : c.obstacle_between-obstacle.result ≡ standard_obstacle counts.consoles counts.byzantine counts.lost c.args.honest = search rules in
-    record {
-      answered = search rules;
-      opening = opening counts.consoles counts.byzantine counts.lost c.args.honest c.obstacle_between-obstacle.result none_else;
-    }
+pub returns-clause-opening : goal.returns-clause-opening
+returns-clause-opening c =
+    let n = c.args.counts.consoles in let t = c.args.counts.byzantine in let d = c.args.counts.lost in
+    let obstacle : c.err-obstacle.result ≡ standard_obstacle n t d c.args.honest = search rules in
+    opening n t d c.args.honest c.err-obstacle.result obstacle

@@ -7,11 +7,5 @@ invariant_of-self c =
     let caster = c.args.self.now in
     let vote = c.args.vote in
     let after = c.cast.new.self in
-    let good = cast_keeps caster.plan caster.tables caster.good after vote.console vote.session vote.number c.requires c.cast.ensures in
-    record {
-      known = caster.known;
-      entered = caster.entered;
-      listed = caster.listed;
-      counted = kept_count caster.plan after good;
-      good = good;
-    }
+    let good = cast_keeps caster.plan caster.tables caster.good after vote.console vote.session vote.number c.requires (rw c.setting.ensures at c.cast.ensures) in
+    record { counted = kept_count caster.plan after good; good = good }

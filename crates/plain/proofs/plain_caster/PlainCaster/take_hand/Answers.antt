@@ -1,5 +1,4 @@
 -- A copy that is handed over keeps the invariant.
-use Rattle.plain_tables.specs.Tables.{route_of}
 use Rattle.plain_tables.specs.declared.event.PlainEvent.TheVariants.{Hand}
 use Rattle.plain_model.proofs.HiddenFacts.{event_keeps, kept_count}
 use Rattle.plain.proofs.plain_caster.PlainCaster.take_hand.Goals as goal
@@ -8,11 +7,5 @@ pub invariant_of-self : goal.invariant_of-self
 invariant_of-self c =
     let caster = c.args.self.now in
     let after = c.hand.new.self in
-    let good = event_keeps caster.plan caster.tables caster.good after (Hand (route_of c.args.route)) c.requires c.hand.ensures.left in
-    record {
-      known = caster.known;
-      entered = caster.entered;
-      listed = caster.listed;
-      counted = kept_count caster.plan after good;
-      good = good;
-    }
+    let good = event_keeps caster.plan caster.tables caster.good after (Hand c.args.route) c.requires (rw c.setting.ensures at c.hand.ensures.left) in
+    record { counted = kept_count caster.plan after good; good = good }
