@@ -4,7 +4,7 @@ ghost use Rattle.floor.specs.Refusals.{LowestAnswers, NumberedApart, number_of};
 
 use thiserror::Error;
 
-mod found;
+mod findings;
 
 /// The numbers are part of the interface; some are not in use.
 #[derive(Clone, Copy, PartialEq, Eq, Debug, Error)]

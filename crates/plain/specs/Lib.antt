@@ -1,3 +1,3 @@
-pub mod Routes
+pub mod Casts
 pub mod Loans
 pub mod Changes

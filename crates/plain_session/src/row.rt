@@ -72,8 +72,7 @@ impl Row {
         self.senders = self.senders.noted(vote.console, !honest.is_empty());
     }
 
-    // The copy under way that is the lowest by sender and receiver, named by the session and the number of the row.
-    // The session and the number are handed in, since a row knows neither.
+    // The copy under way that is the lowest by sender and receiver. The session and the number name it, and a row knows neither.
     pub(crate) fn first_copy(&self, session: usize, number: usize) -> Option<Endorsement>
         ensures { result ≡ first_of_number self.now session number }
     {

@@ -1,5 +1,6 @@
 -- What a caster achieves among h honest consoles of n, with at most t Byzantine consoles and d lost copies of a message.
 use Rattle.std.specs.Prelude.{◌≡◌, ℕ, ◌+◌, ◌-◌, ◌*◌, ◌/◌, ◌≤◌, Bool, cond, ◌&&◌, ◌||◌, Some, None, Option, Ok, Err, Result, nat_le, nat_lt}
+use Rattle.std.specs.Option.{option_map_or}
 use Rattle.quorum.specs.declared.figures.Figures.{Figures}
 use Rattle.quorum.specs.declared.rules.Broken.{Broken}
 use Rattle.quorum.specs.declared.rules.Rule.{Rule}
@@ -43,13 +44,9 @@ abbrev pub figures_at : Thresholds → (n t d h : ℕ) → Option Figures
 figures_at th n t d h =
     cond (nat_le (n - t) h && nat_le h n) (unless_broken (broken_at th t d h) (figures_of th n t d h)) None
 
-abbrev pub borne_or_broken : Option Broken → Figures → Result Figures Broken
-borne_or_broken None figures = Ok figures
-borne_or_broken (Some broken) figures = Err broken
-
 -- The figures, where the rules hold at every count that the floor may have; else where one fails first.
 abbrev pub bears : Thresholds → (n t d h : ℕ) → Result Figures Broken
-bears th n t d h = borne_or_broken (first_broken th n t d) (figures_of th n t d h)
+bears th n t d h = option_map_or Err (first_broken th n t d) (Ok (figures_of th n t d h))
 
 -- The caster keeps its rules at h, and achieves these figures.
 pub record Achieved (th : Thresholds) (n t d h : ℕ) (figures : Figures) : Type 0 where

@@ -52,7 +52,7 @@ impl Thresholds {
         ensures voices { Voices }
     {
         let floor = counts.with_honest(honest)?;
-        self.keep(floor).ok()?;
+        self.check(floor).ok()?;
         Some(self.figures_within(floor))
     }
 

@@ -50,7 +50,7 @@ impl Thresholds {
         let consoles = counts.consoles();
         // A `for`, since the proof did not close over a `find_map`.
         for honest in consoles - counts.max_byzantine()..=consoles {
-            if let Err(rule) = self.keep(counts.with_honest(honest).unwrap()) {
+            if let Err(rule) = self.check(counts.with_honest(honest).unwrap()) {
                 return Some(Broken { honest, rule });
             }
         }
@@ -58,18 +58,18 @@ impl Thresholds {
     }
 
     // The rules are kept at the floor's honest count, or one fails first.
-    pub(crate) fn keep(&self, floor: Composition) -> Result<(), Rule>
+    pub(crate) fn check(&self, floor: Composition) -> Result<(), Rule>
         ensures { result_err result ≡ broken_at self.now floor.counts.byzantine floor.counts.lost floor.honest }
     {
         match *self {
-            Thresholds::Plain(plain) => plain.keep(floor),
-            Thresholds::Signed { deliver } => keep_signed(floor, deliver),
+            Thresholds::Plain(plain) => plain.check(floor),
+            Thresholds::Signed { deliver } => check_signed(floor, deliver),
         }
     }
 }
 
 impl PlainThresholds {
-    fn keep(&self, floor: Composition) -> Result<(), Rule>
+    fn check(&self, floor: Composition) -> Result<(), Rule>
         ensures { result_err result ≡ plain_broken_at floor.counts.byzantine floor.counts.lost self.now.deliver self.now.forward floor.honest }
     {
         let PlainThresholds {
@@ -102,7 +102,7 @@ impl PlainThresholds {
     }
 }
 
-fn keep_signed(floor: Composition, deliver: usize) -> Result<(), Rule>
+fn check_signed(floor: Composition, deliver: usize) -> Result<(), Rule>
     ensures { result_err result ≡ signed_broken_at floor.counts.byzantine floor.counts.lost deliver floor.honest }
 {
     let honest = floor.honest();

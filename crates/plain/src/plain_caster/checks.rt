@@ -1,10 +1,11 @@
 // What is checked before a plain caster changes.
-ghost use Rattle.std.specs.Prelude.{◌≡◌};
-ghost use Rattle.floor.specs.Refusals.{first_found, answer};
+ghost use Rattle.std.specs.Prelude.{[], ◌∷◌, ◌≡◌};
+ghost use Rattle.floor.specs.Refusals.{answer, check, first_found};
+ghost use Rattle.floor.specs.declared.refusal.Refusal.TheVariants.{OutOfRange};
 ghost use Rattle.caster.specs.Meanings.{cast_checks, question_checks};
 ghost use Rattle.plain_tables.specs.declared.event.PlainEvent.TheVariants.{Hand, Lose, Inject};
 ghost use Rattle.plain_model.specs.Steps.{byzantine, event_checks, meaning_of, outside};
-ghost use Rattle.plain.specs.Routes.{choice, range_checks};
+ghost use Rattle.plain.specs.Casts.{choice};
 
 use super::PlainCaster;
 use floor::Refusal;
@@ -19,7 +20,7 @@ impl PlainCaster {
 
     // The copy's place in the tables.
     fn route(&self, e: Endorsement) -> Result<Route, Refusal>
-        ensures { result ≡ answer (first_found (range_checks (outside self.now.plan.floor e))) e }
+        ensures { result ≡ answer (first_found (check (outside self.now.plan.floor e) OutOfRange ∷ [])) e }
     {
         let floor = self.plan.floor();
         if e.sender >= floor.consoles

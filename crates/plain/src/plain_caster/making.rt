@@ -70,6 +70,7 @@ fn started(plan: PlainPlan, tables: Tables) -> PlainCaster
     ensures planned { result.plan ≡ plan }
     ensures fresh { result.tables ≡ tables }
 {
+    // Opens the plan, for what its model says of it.
     let _ = &plan.plan;
     PlainCaster { plan, tables }
 }
