@@ -1,5 +1,5 @@
 -- What the laws say of one state or one call can be had in one way only. So it follows also from an invariant that a type hides.
-use Rattle.std.proofs.Common.{◌≡◌, ℕ, is_some, Some, None, Option, sym, refl, ap}
+use Rattle.std.proofs.Common.{◌≡◌, ℕ, is_some, Some, None, Option, unwrap_or, sym, refl, ap}
 use mathlib.Core.Bool.{Bool-set}
 use mathlib.Core.Logic.{∥∥₁_elim}
 use mathlib.Core.HLevel.{×_prop, Π_prop, hedberg}
@@ -13,14 +13,9 @@ use Rattle.caster.specs.Meanings.{Meaning, Numbers}
 use Rattle.caster.specs.declared.delivery.Delivery.{Delivery}
 use Rattle.caster.specs.declared.floor_figures.FloorFigures.{FloorFigures}
 
-value_or : ℕ → Option ℕ → ℕ
-value_or d None = d
-value_or d (Some v) = v
-
 decide_some : (u v : ℕ) → Dec (u ≡ v) → Dec (Some u ≡ Some v)
-unfolding value_or
 decide_some u v (yes e) = yes (ap Some e)
-decide_some u v (no n) = no (λ e. n (ap (value_or u) e))
+decide_some u v (no n) = no (λ e. n (ap (λ o. unwrap_or o u) e))
 
 number_discrete : Discrete (Option ℕ)
 number_discrete None None = yes refl

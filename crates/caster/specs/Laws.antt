@@ -1,10 +1,11 @@
 -- The laws of casters, on what they mean. docs/casters.md has them in words.
 use Rattle.std.specs.Prelude.{◌≡◌, ℕ, ◌*◌, ◌<◌, ◌≤◌, true, not, is_some, is_ok, Some, None, Ok, Err, Option}
+use Rattle.std.specs.Result.{result_err}
 use Rattle.floor.specs.Refusals.{first_found}
 use Rattle.floor.specs.declared.refusal.Refusal.{Refusal}
 use Rattle.caster.specs.declared.delivery.Delivery.{Delivery}
 use Rattle.caster.specs.Floors.{InRange, honest, honestly}
-use Rattle.caster.specs.Meanings.{Meaning, Numbers, Answered, refusal_of, is, put, cast_checks}
+use Rattle.caster.specs.Meanings.{Meaning, Numbers, Answered, is, put, cast_checks}
 
 -- ---- one state
 
@@ -78,7 +79,7 @@ pub record Laws {S E : Type 0} (meaning : S → Meaning)
   -- a cast is refused for a number out of range, a Byzantine console, or a console that has cast there, and for nothing else
   pub cast_refused :
       (before after : S) (c s v : ℕ) (r : Answered) → casted before c s v r after
-      → refusal_of r ≡ first_found (cast_checks (meaning before) c s v)
+      → result_err r ≡ first_found (cast_checks (meaning before) c s v)
   pub cast_recorded :
       (before after : S) (c s v : ℕ) (added : Option Delivery) → casted before c s v (Ok added) after
       → Moves (meaning before) (put (meaning before).casts c s v) added (meaning after) × There c s added

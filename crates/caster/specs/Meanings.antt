@@ -1,5 +1,5 @@
 -- What a caster means: what was cast and delivered, how far it has come, and what it promises. docs/casters.md explains the words.
-use Rattle.std.specs.Prelude.{ℕ, Bool, false, cond, ◌&&◌, ◌||◌, List, [], ◌∷◌, is_some, Some, None, Ok, Err, Option, Result, ◌==◌, nat_le}
+use Rattle.std.specs.Prelude.{ℕ, Bool, false, cond, ◌&&◌, ◌||◌, List, [], ◌∷◌, is_some, Some, None, Option, Result, ◌==◌, nat_le}
 use Rattle.sets.specs.Members.{has}
 use Rattle.quorum.specs.declared.figures.Figures.{Figures}
 use Rattle.floor.specs.Refusals.{Check, check, first_found, answer}
@@ -25,10 +25,6 @@ pub record Meaning : Type 0 where
 -- What cast and step answer: a refusal, or the delivery that they added, if any.
 abbrev pub Answered : Type 0
 Answered = Result (Option Delivery) Refusal
-
-abbrev pub refusal_of : {A E : Type 0} → Result A E → Option E
-refusal_of (Ok a) = None
-refusal_of (Err e) = Some e
 
 -- The number stands there.
 abbrev pub is : Option ℕ → ℕ → Bool

@@ -1,5 +1,6 @@
 -- The plain caster keeps the laws of casters.
 use Rattle.std.proofs.Common.{◌≡◌, ℕ, ◌<◌, true, is_ok, Some, None, Ok, Option, sym, refl, ap, ◌∙◌, subst}
+use Rattle.std.specs.Result.{result_err}
 use mathlib.Core.Bool.{Bool-set}
 use mathlib.Core.HLevel.{×_prop}
 use mathlib.Core.Logic.{∥∥₁_elim}
@@ -8,7 +9,7 @@ use Rattle.floor.specs.Refusals.{first_found, answer, after}
 use Rattle.floor.specs.declared.refusal.Refusal.{Refusal}
 use Rattle.caster.proofs.Propositions.{sound_prop, moves_from}
 use Rattle.caster.specs.Laws.{Laws, Moves, There}
-use Rattle.caster.specs.Meanings.{Numbers, Meaning, Answered, refusal_of, put}
+use Rattle.caster.specs.Meanings.{Numbers, Meaning, Answered, put}
 use Rattle.caster.specs.declared.delivery.Delivery.{Delivery}
 use Rattle.plain_tables.specs.declared.event.PlainEvent.{PlainEvent}
 use Rattle.plain_tables.specs.declared.event.PlainEvent.TheVariants.{Hand, Lose, Inject}
@@ -25,7 +26,7 @@ use Rattle.plain_model.proofs.Soundness.{plain_sound}
 -- ---- answers
 
 -- An answer tells what a check found.
-refusal_told : {A E : Type 0} (found : Option E) (value : A) → refusal_of (answer found value) ≡ found
+refusal_told : {A E : Type 0} (found : Option E) (value : A) → result_err (answer found value) ≡ found
 refusal_told None value = refl
 refusal_told (Some e) value = refl
 
@@ -99,7 +100,7 @@ module _ {S : Type 0} (plan : S → Plan) (tables : S → Tables) (good : (s : S
       record {
         cast_kept = λ before next c s v e rel. rel.3 refl;
         step_kept = λ before next event e rel. rel.3 refl;
-        cast_refused = λ before next c s v r rel. ap refusal_of rel.0 ∙ refusal_told _ None;
+        cast_refused = λ before next c s v r rel. ap result_err rel.0 ∙ refusal_told _ None;
         cast_recorded = cast_records;
         step_recorded = step_moves;
         offer_taken = offer_takes;

@@ -1,10 +1,10 @@
 -- The first copy of a session, which is found by masks, is the next one there.
-use Rattle.std.proofs.Common.{◌≡◌, ℕ, Bool, true, not, eqb, Some, None, Option, sym, refl, ap, ◌∙◌, subst, MatchOption}
+use Rattle.std.proofs.Common.{◌≡◌, ℕ, Bool, true, not, eqb, Some, None, Option, sym, refl, ap, ◌∙◌, subst, MatchOption, option_map, option_and_then}
 use Rattle.std.proofs.lemmas.Bool.{eq-eqb, false≢true}
 use Rattle.sets.proofs.Fronts.{first_member_is}
 use Rattle.sets.specs.Members.{Lowest}
 use Rattle.plain_session.specs.Rows.{pending_from}
-use Rattle.plain_session.specs.Sessions.{row_of, first_to, first_from, first_of_number, first_of, first_copy}
+use Rattle.plain_session.specs.Sessions.{row_of, first_from, first_of_number, first_copy}
 use Rattle.plain_session.specs.declared.endorsement.Endorsement.{Endorsement}
 use Rattle.plain_session.specs.declared.row.Row.{Row}
 use Rattle.plain_session.specs.declared.session_table.SessionTable.{SessionTable}
@@ -29,14 +29,17 @@ module _ (p : Plan) (sound : SoundPlan p) where
     abbrev Found : Option Endorsement → Type 0
     Found o = MatchOption o (r.senders.places.mask ≡ 0) (RowNext r s v)
 
+    abbrev copy_to : (f c : ℕ) → Endorsement
+    copy_to f c = record { sender = f; receiver = c; session = s; number = v }
+
     to_receiver :
         (f : ℕ) (o : Option ℕ) → Lowest r.senders.places.mask f
-        → MatchOption o ((pending_from r f).mask ≡ 0) (Lowest (pending_from r f).mask) → Found (first_to s v f o)
+        → MatchOption o ((pending_from r f).mask ≡ 0) (Lowest (pending_from r f).mask) → Found (option_map (copy_to f) o)
     to_receiver f None low empty = absurd (busy_place _ _ (good.senders_noted f) low.0 empty)
     to_receiver f (Some c) low lowest = record { session = refl; number = refl; sender = low; receiver = lowest }
 
     from_sender :
-        (o : Option ℕ) → MatchOption o (r.senders.places.mask ≡ 0) (Lowest r.senders.places.mask) → Found (first_from r s v o)
+        (o : Option ℕ) → MatchOption o (r.senders.places.mask ≡ 0) (Lowest r.senders.places.mask) → Found (option_and_then (first_from r s v) o)
     from_sender None empty = empty
     from_sender (Some f) low = to_receiver f _ low (first_member_is _ (pending_fits p v r sound good f))
 
@@ -62,7 +65,7 @@ module _ (p : Plan) (sound : SoundPlan p) where
 
     of_number :
         (o : Option ℕ) → MatchOption o (t.numbers.places.mask ≡ 0) (Lowest t.numbers.places.mask)
-        → MatchOption (first_of t s o) (t.numbers.places.mask ≡ 0) (SessionNext t s)
+        → MatchOption (option_and_then (λ v. first_of_number (row_of t v) s v) o) (t.numbers.places.mask ≡ 0) (SessionNext t s)
     of_number None empty = empty
     of_number (Some v) low = of_row v _ low (row_next (row_of t v) s v (good.steady.table.rows v))
 

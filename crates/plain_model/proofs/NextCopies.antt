@@ -1,18 +1,19 @@
 -- The offered copy is the next one, and handing it over is accepted.
-use Rattle.std.proofs.Common.{◌≡◌, ℕ, ◌<◌, true, false, not, is_some, Some, None, Option, sym, refl, ap, ◌∙◌, subst, inl, inr, arith, MatchOption}
+use Rattle.std.proofs.Common.{◌≡◌, ℕ, ◌<◌, true, false, not, is_some, Some, None, Option, sym, refl, ap, ◌∙◌, subst, inl, inr, arith, MatchOption, option_map, option_and_then}
 use Rattle.std.proofs.lemmas.Bool.{both_ways, eq-eqb, ne_eqb, lt-leb, not-true}
 use Rattle.sets.proofs.Fronts.{first_member_is}
 use Rattle.sets.specs.Members.{has, Lowest}
 use Rattle.floor.specs.Refusals.{first_found}
 use Rattle.plain_session.specs.declared.endorsement.Endorsement.{Endorsement}
-use Rattle.plain_tables.specs.Tables.{busy_session, session_of, first_in, next_copy, quiet, under_way}
+use Rattle.plain_session.specs.Sessions.{first_copy}
+use Rattle.plain_tables.specs.Tables.{busy_session, session_of, next_copy, quiet, under_way}
 use Rattle.plain_tables.specs.declared.event.PlainEvent.TheVariants.{Hand}
 use Rattle.plain_tables.specs.declared.plan.Plan.{Plan}
 use Rattle.plain_tables.specs.declared.tables.Tables.{Tables}
 use Rattle.plain_model.specs.Invariant.{Good}
 use Rattle.plain_model.specs.Offers.{Before, Offers}
 use Rattle.plain_model.specs.Plans.{is_honest}
-use Rattle.plain_model.specs.Steps.{event_checks, hand_offer, offer_of, byzantine}
+use Rattle.plain_model.specs.Steps.{event_checks, offer_of, byzantine}
 use Rattle.plain_model.proofs.Accepted.{Sent}
 use Rattle.plain_model.proofs.FirstCopies.{SessionNext, busy_place, session_next}
 use Rattle.plain_model.proofs.HonestSet.{honest_below, honest_or_byzantine}
@@ -86,7 +87,7 @@ module _ (p : Plan) (x : Tables) (good : Good p x) where
   -- and the lowest one has the next copy.
   in_busy :
       (o : Option ℕ) → MatchOption o (x.busy.places.mask ≡ 0) (Lowest x.busy.places.mask)
-      → MatchOption (first_in x o) (x.busy.places.mask ≡ 0) Next
+      → MatchOption (option_and_then (λ s. first_copy (session_of x s) s) o) (x.busy.places.mask ≡ 0) Next
   in_busy None empty = empty
   in_busy (Some s) low =
       let below = busy_below s low.0 in
@@ -109,7 +110,7 @@ module _ (p : Plan) (x : Tables) (good : Good p x) where
   before_idle e other next (inr (same, inr (row, inr (from, receiver)))) =
       rw (same, row, from) (next.rest.row.receiver.1 _ receiver)
 
-  offers_by : (o : Option Endorsement) → MatchOption o (x.busy.places.mask ≡ 0) Next → Offers x (hand_offer o)
+  offers_by : (o : Option Endorsement) → MatchOption o (x.busy.places.mask ≡ 0) Next → Offers x (option_map Hand o)
   offers_by None empty = λ e. quiet_all p x good (eq-eqb _ 0 empty) e.session e.number e.sender e.receiver
   offers_by (Some e) next = (next_way e next, λ other. before_idle e other next)
 
@@ -117,7 +118,7 @@ module _ (p : Plan) (x : Tables) (good : Good p x) where
   pub offers : Offers x (offer_of x)
   offers = offers_by _ tables_next
 
-  offering_by : (o : Option Endorsement) → MatchOption o (x.busy.places.mask ≡ 0) Next → is_some (hand_offer o) ≡ not (quiet x)
+  offering_by : (o : Option Endorsement) → MatchOption o (x.busy.places.mask ≡ 0) Next → is_some (option_map Hand o) ≡ not (quiet x)
   offering_by None empty = sym (ap not (eq-eqb _ 0 empty))
   offering_by (Some e) next =
       sym (ap not (ne_eqb _ 0 (λ empty. both_ways _ (no_member _ e.session empty) next.session.0)))

@@ -1,5 +1,5 @@
 -- What the plain caster means, and what it answers and leaves. docs/casters.md has the rules in words.
-use Rattle.std.specs.Prelude.{◌≡◌, ℕ, Bool, false, not, ◌&&◌, ◌||◌, List, [], ◌∷◌, ◌++◌, is_ok, Some, None, Option, nat_le}
+use Rattle.std.specs.Prelude.{◌≡◌, ℕ, Bool, false, not, ◌&&◌, ◌||◌, List, [], ◌∷◌, ◌++◌, is_ok, None, Option, option_map, nat_le}
 use Rattle.sets.specs.Counting.{sum, count}
 use Rattle.sets.specs.Members.{has}
 use Rattle.floor.specs.Refusals.{Check, check, first_found, answer, after}
@@ -109,13 +109,9 @@ after_cast p x console session number =
     after (first_found (cast_checks (meaning_of p x) console session number)) x
     (cast_tables p.setting x console session number)
 
-abbrev pub hand_offer : Option Endorsement → Option PlainEvent
-hand_offer None = None
-hand_offer (Some e) = Some (Hand e)
-
 -- the next copy is offered to be handed
 abbrev pub offer_of : Tables → Option PlainEvent
-offer_of x = hand_offer (next_copy x)
+offer_of x = option_map Hand (next_copy x)
 
 -- ---- the same of whatever holds a plan and tables
 

@@ -1,5 +1,5 @@
 -- One session: a row for each payload number, and what each console has cast and delivered.
-use Rattle.std.specs.Prelude.{ℕ, [], replicate, Some, None, Option, slice_index_or, slice_set}
+use Rattle.std.specs.Prelude.{ℕ, [], replicate, Some, None, Option, option_map, option_and_then, slice_index_or, slice_set}
 use Rattle.sets.specs.Members.{empty_set, with_console, first_member}
 use Rattle.sets.specs.declared.console_set.ConsoleSet.{ConsoleSet}
 use Rattle.plain_session.specs.Agendas.{nothing, noted}
@@ -33,27 +33,20 @@ delivered_by t console = slice_index_or t.deliveries console None
 
 -- ---- the next copy
 
-abbrev pub first_to : (session number sender : ℕ) → Option ℕ → Option Endorsement
-first_to session number sender None = None
-first_to session number sender (Some receiver) =
-    Some (record { sender = sender; receiver = receiver; session = session; number = number })
+-- by masks: the lowest receiver that the sender has a copy under way to
+abbrev pub first_from : Row → (session number sender : ℕ) → Option Endorsement
+first_from row session number sender =
+    option_map (λ receiver. record { sender = sender; receiver = receiver; session = session; number = number })
+    (first_member (pending_from row sender).mask)
 
-abbrev pub first_from : Row → (session number : ℕ) → Option ℕ → Option Endorsement
-first_from row session number None = None
-first_from row session number (Some sender) =
-    first_to session number sender (first_member (pending_from row sender).mask)
-
--- by masks: the lowest sender that has copies of the number under way, and its lowest receiver
+-- the first copy of the lowest sender that has copies of the number under way
 abbrev pub first_of_number : Row → (session number : ℕ) → Option Endorsement
-first_of_number row session number = first_from row session number (first_member row.senders.places.mask)
+first_of_number row session number = option_and_then (first_from row session number) (first_member row.senders.places.mask)
 
-abbrev pub first_of : SessionTable → (session : ℕ) → Option ℕ → Option Endorsement
-first_of t session None = None
-first_of t session (Some number) = first_of_number (row_of t number) session number
-
--- by masks: the first copy of the lowest number that has copies under way
+-- the first copy of the lowest number that has copies under way
 abbrev pub first_copy : SessionTable → (session : ℕ) → Option Endorsement
-first_copy t session = first_of t session (first_member t.numbers.places.mask)
+first_copy t session =
+    option_and_then (λ number. first_of_number (row_of t number) session number) (first_member t.numbers.places.mask)
 
 -- ---- one write
 

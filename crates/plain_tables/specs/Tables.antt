@@ -1,5 +1,5 @@
 -- All sessions of a plain caster, and what an event or a cast does to them.
-use Rattle.std.specs.Prelude.{ℕ, ◌-◌, Bool, not, [], replicate, Some, None, Option, ◌==◌, count_ones, slice_index_or, slice_set}
+use Rattle.std.specs.Prelude.{ℕ, ◌-◌, Bool, not, [], replicate, Option, option_and_then, ◌==◌, count_ones, slice_index_or, slice_set}
 use Rattle.sets.specs.Members.{has, empty_set, first_member}
 use Rattle.caster.specs.declared.delivery.Delivery.{Delivery}
 use Rattle.plain_session.specs.Agendas.{nothing, noted}
@@ -102,10 +102,7 @@ losses x e = count_ones (lost_from (row_for x e) e.sender).mask
 
 -- ---- the next copy
 
-abbrev pub first_in : Tables → Option ℕ → Option Endorsement
-first_in x None = None
-first_in x (Some session) = first_copy (session_of x session) session
-
--- by masks: the first copy of the lowest session that has copies under way
+-- the first copy of the lowest session that has copies under way
 abbrev pub next_copy : Tables → Option Endorsement
-next_copy x = first_in x (first_member x.busy.places.mask)
+next_copy x =
+    option_and_then (λ session. first_copy (session_of x session) session) (first_member x.busy.places.mask)
