@@ -18,8 +18,9 @@ pub struct FloorFigures {
 
 impl From<&Draft> for FloorFigures {
     ghost use Rattle.caster.specs.Floors.{IsFloorOf};
+    ghost use Rattle.floor.specs.States.{state_of};
 
-    ghost from_gives = { λ draft floor. IsFloorOf draft.now floor };
+    ghost from_gives = { λ draft floor. IsFloorOf (state_of draft.now) floor };
 
     fn from(draft: &Draft) -> FloorFigures {
         FloorFigures {

@@ -21,8 +21,8 @@ pub record DraftState : Type 0 where
   pub sessions : List Session
 
 -- the state that these make up
-abbrev pub state_of : Counts → ℕ → ConsoleSet → List Session → DraftState
-state_of counts capacity byzantine sessions = record {
+abbrev pub holding : Counts → ℕ → ConsoleSet → List Session → DraftState
+holding counts capacity byzantine sessions = record {
   n = counts.consoles;
   t = counts.byzantine;
   d = counts.lost;
@@ -46,6 +46,7 @@ pub record IsSound (s : DraftState) : Type 0 where
   pub capacity : IsCapacity s.capacity
   pub byzantine : IsTolerated s.n s.t s.byzantine
   pub sessions : Orderly s.n s.sessions
+  pub room : length s.sessions ≤ 16
 
 -- nothing marked and nothing entered
 abbrev pub new_draft : ℕ → ℕ → ℕ → ℕ → DraftState

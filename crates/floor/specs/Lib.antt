@@ -4,3 +4,4 @@ pub mod Payloads
 pub mod Places
 pub mod Refusals
 pub mod Sessions
+pub mod States

@@ -14,7 +14,7 @@ pub record IsCard (len : ℕ) (places : List ℕ) : Type 0 where
   pub whole : length places ≡ 16
   pub zeros : drop len places ≡ replicate (16 - len) 0
 
--- the card's bytes give the places back
+-- the card's bytes give the places back, so cards of the same bytes are the same
 pub filled-take : (len : ℕ) (places : List ℕ) → IsCard len places → (filled (take len places) ≡ places) × (length (take len places) ≡ len)
 filled-take len places card =
     let long : length (take len places) ≡ len = length-take-le len places (omega (arith, card.fits, card.whole)) in

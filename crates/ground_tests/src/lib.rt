@@ -1,6 +1,8 @@
 // A walk through a set, and the refusals of draft and card in their order, at each limit and one beyond.
 #![tactic(auto)]
 
+mod told;
+
 #[cfg(test)]
 mod tests {
     use floor::{Card, Draft, Payload, Refusal, Session, SessionResult};

@@ -1,3 +1,4 @@
 pub mod Casts
 pub mod Loans
 pub mod Changes
+pub mod Plans

@@ -9,5 +9,6 @@ mod pictures;
 mod refusals;
 #[cfg(test)]
 mod scenes;
+mod told;
 #[cfg(test)]
 mod waves;

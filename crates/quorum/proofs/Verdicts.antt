@@ -1,15 +1,22 @@
--- What the answers of `broken` mean: at one count of honest consoles, and over a range of them.
+-- What the answers of `broken` and `figures` mean: at one count of honest consoles, and over a range of them.
 use Rattle.std.proofs.Common.{◌≡◌, ℕ, zero, suc, ◌+◌, ◌-◌, ◌<◌, ◌≤◌, Some, None, Option, sym, refl, subst, inl, inr, arith, MatchOption}
 use Rattle.std.proofs.lemmas.Bool.Decides.{nat_tests}
 use Rattle.std.proofs.lemmas.Bool.{cases_eq}
+use Rattle.quorum.specs.declared.figures.Figures.{Figures}
 use Rattle.quorum.specs.declared.rules.Broken.{Broken}
 use Rattle.quorum.specs.declared.rules.Rule.{Rule}
 use Rattle.quorum.specs.declared.thresholds.Thresholds.{Thresholds}
+use Rattle.quorum.specs.Figures.{FiguresMean, figures_at}
 use Rattle.quorum.specs.Rules.{Borne, broken_at, broken_or, broken_from, first_broken, RulesHold, FailsFirst, Verdict}
 
 -- The rule that is named is the first to fail, and where none is named the rules hold.
 pub broken_tells : (th : Thresholds) (t d g : ℕ) → MatchOption (broken_at th t d g) (RulesHold th t d g) (FailsFirst th t d g)
 broken_tells th t d g = grind (arith, nat_tests)
+
+-- For proofs that have an answer in hand.
+pub unbroken_holds : (th : Thresholds) (t d g : ℕ) → broken_at th t d g ≡ None → RulesHold th t d g
+unbroken_holds th t d g e =
+    subst (λ (o : Option Rule). MatchOption o (RulesHold th t d g) (FailsFirst th t d g)) e (broken_tells th t d g)
 
 -- A rule that fails first does fail.
 fails_not_holds : (th : Thresholds) (t d g : ℕ) (rule : Rule) → FailsFirst th t d g rule → RulesHold th t d g → ⊥
@@ -86,3 +93,8 @@ module _ (th : Thresholds) (t d : ℕ) where
       → broken_from th t d g (n + 1 - g) ≡ broken_from th t d (g + 1) (n + 1 - (g + 1))
   broken_later n g most holds =
       let e : n + 1 - g ≡ suc (n + 1 - (g + 1)) = omega arith in rw (e, holds)
+
+-- Figures are given exactly where the count is in range and the rules hold.
+pub figures_mean :
+    (th : Thresholds) (n t d h : ℕ) (r : Option Figures) → r ≡ figures_at th n t d h → FiguresMean th n t d h r
+figures_mean th n t d h r e = grind (arith, nat_tests)

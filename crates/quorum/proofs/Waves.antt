@@ -4,7 +4,7 @@ use Rattle.std.proofs.Common.{◌≡◌, ℕ, ◌+◌, ◌-◌, ◌*◌, ◌/◌
 use native.Mathlib.Nat.{mul-lt-mul_of_pos_left, le_of_mul-le-mul_left}
 use Rattle.std.proofs.lemmas.Nat.{le-div, div_below}
 use Rattle.std.proofs.lemmas.Bool.{cases_lt}
-use Rattle.quorum.specs.Waves.{Amplifying, Wave, RulesAmplify, Amplification, Reaches, Supports, Positive, Voices, Backs}
+use Rattle.quorum.specs.Waves.{Amplifying, Wave, RulesAmplify, Amplification, Reaches, Supports, Positive, Voices, Backs, FiguresPromise}
 
 -- Large times large and small times small exceed the two mixed products.
 rearranged : (a b c d : ℕ) → a ≤ b → c ≤ d → a * d + b * c ≤ a * c + b * d
@@ -177,3 +177,6 @@ voices = record { apart = λ n t h q within most loud. omega arith; shared = λ 
 -- Byzantine consoles are at most those that are not honest.
 pub backs : Backs
 backs n h q k within = omega arith
+
+pub promised : FiguresPromise
+promised = record { positive = positive; backs = backs; supports = supports; reaches = reaches; voices = voices }

@@ -58,3 +58,11 @@ pub record Voices : Type 0 where
 -- Of any q consoles, k of them Byzantine, at least as many as the backing are honest.
 abbrev pub Backs : Type 0
 Backs = (n h q k : ℕ) → h + k ≤ n → backing_of n h q ≤ q - k
+
+-- What figures promise: the theorems above that speak of them.
+pub record FiguresPromise : Type 0 where
+  pub positive : Positive
+  pub backs : Backs
+  pub supports : Supports
+  pub reaches : Reaches
+  pub voices : Voices

@@ -2,7 +2,7 @@
 ghost use Rattle.std.specs.Prelude.{◌≡◌, ◌≤◌, None};
 ghost use Rattle.quorum.specs.Figures.{BearingMeans, FiguresMean, bears, figures_at, figures_of, overlap};
 ghost use Rattle.quorum.specs.Rules.{PlainRules, RulesHold, SignedRules};
-ghost use Rattle.quorum.specs.Waves.{Backs, Positive, Reaches, Supports, Voices};
+ghost use Rattle.quorum.specs.Waves.{Backs, FiguresPromise, Positive, Reaches, Supports, Voices};
 ghost use Rattle.quorum.specs.declared.thresholds.Thresholds.TheVariants.{Plain, Signed};
 
 use crate::composition::Composition;
@@ -57,9 +57,11 @@ impl Thresholds {
     }
 
     /// The figures, if no rule fails at any count of honest consoles that the floor may have.
+    #[tactic(auto, using(crate::proofs::Waves::promised))]
     pub fn bear(&self, floor: Composition) -> Result<Figures, Broken>
         ensures answers { result ≡ bears self.now floor.counts.consoles floor.counts.byzantine floor.counts.lost floor.honest }
         ensures means { BearingMeans self.now floor.counts.consoles floor.counts.byzantine floor.counts.lost floor.honest result }
+        ensures promises { FiguresPromise }
     {
         match self.broken(floor.counts()) {
             Some(broken) => Err(broken),

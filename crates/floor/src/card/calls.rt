@@ -1,6 +1,6 @@
 // What a card is made of and answers.
 ghost use Rattle.std.specs.Prelude.{◌≡◌, ◌≤◌, ◌↔◌, IsTrue, length};
-ghost use Rattle.floor.specs.Cards.{card_refusal, same_card, same_card_equivalence};
+ghost use Rattle.floor.specs.Cards.{card_bytes, card_planned, card_refusal, same_card, same_card_equivalence};
 ghost use Rattle.floor.specs.Places.{filled};
 ghost use Rattle.floor.specs.Refusals.{answer};
 
@@ -10,7 +10,7 @@ use crate::refusal::Refusal;
 
 impl Card {
     pub fn plan(bytes: &[u8]) -> Result<CardPlan, Refusal>
-        ensures { result ≡ answer (card_refusal bytes.now) bytes.now }
+        ensures { card_planned result ≡ answer (card_refusal bytes.now) bytes.now }
     {
         let len = bytes.len();
         if !(1..=MAX_CARD_LEN).contains(&len) {
@@ -26,13 +26,13 @@ impl Card {
 
     // No `From`, since making in two calls, `plan` and `new`, is a rule of the project.
     pub fn new(plan: CardPlan) -> Card
-        ensures { result ≡ plan }
+        ensures { result ≡ plan.card }
     {
         plan.card
     }
 
     pub fn as_bytes(&self) -> &[u8]
-        ensures bytes { result.now ≡ self.now }
+        ensures bytes { result.now ≡ card_bytes self.now }
         ensures some { 1 ≤ length result.now }
         ensures fits { length result.now ≤ 16 }
     {
@@ -58,7 +58,7 @@ impl Payload for Card {
 
     fn alike(&self, other: &Card) -> bool
         ensures tested { result ≡ same_card self.now other.now }
-        ensures equal { IsTrue result ↔ (self.now ≡ other.now) }
+        ensures equal { IsTrue result ↔ (card_bytes self.now ≡ card_bytes other.now) }
     {
         self.as_bytes() == other.as_bytes()
     }

@@ -2,6 +2,7 @@
 ghost use Rattle.std.specs.Prelude.{◌≡◌, false, is_ok};
 ghost use Rattle.floor.specs.Drafts.{mark_checks, mark_answer, after_mark, enter_checks, enter_answer, after_enter};
 ghost use Rattle.floor.specs.Refusals.{Rising};
+ghost use Rattle.floor.specs.States.{state_of};
 
 use super::Draft;
 use crate::refusal::Refusal;
@@ -11,10 +12,10 @@ impl Draft {
     /// Marks a console as Byzantine.
     #[tactic(auto, using(sets::proofs::Operations::with_member_lt, sets::proofs::Operations::ones_with_le))]
     pub fn mark(&mut self, console: usize) -> Result<(), Refusal>
-        ensures answered { result ≡ mark_answer self.old console }
-        ensures left { self.new ≡ after_mark self.old console }
+        ensures answered { result ≡ mark_answer (state_of self.old) console }
+        ensures left { state_of self.new ≡ after_mark (state_of self.old) console }
         ensures kept { is_ok result ≡ false → self.new ≡ self.old }
-        ensures rising { Rising (mark_checks self.old console) }
+        ensures rising { Rising (mark_checks (state_of self.old) console) }
     {
         if console >= self.counts.consoles() {
             return Err(Refusal::OutOfRange);
@@ -31,10 +32,10 @@ impl Draft {
 
     /// Enters a session, and answers its number.
     pub fn enter(&mut self, owner: usize, sequence: usize) -> Result<usize, Refusal>
-        ensures answered { result ≡ enter_answer self.old owner sequence }
-        ensures left { self.new ≡ after_enter self.old owner sequence }
+        ensures answered { result ≡ enter_answer (state_of self.old) owner sequence }
+        ensures left { state_of self.new ≡ after_enter (state_of self.old) owner sequence }
         ensures kept { is_ok result ≡ false → self.new ≡ self.old }
-        ensures rising { Rising (enter_checks self.old owner sequence) }
+        ensures rising { Rising (enter_checks (state_of self.old) owner sequence) }
     {
         if owner >= self.counts.consoles() {
             return Err(Refusal::OutOfRange);

@@ -1,6 +1,7 @@
 // Making a draft: the first call answers a refusal or a plan, the second makes the draft of the plan.
 ghost use Rattle.std.specs.Prelude.{◌≡◌};
 ghost use Rattle.floor.specs.Drafts.{IsSound, plan_answer};
+ghost use Rattle.floor.specs.States.{plan_of, planned, state_of};
 
 use super::{Draft, DraftPlan};
 use crate::refusal::Refusal;
@@ -18,7 +19,7 @@ impl Draft {
         lost: usize,
         capacity: usize,
     ) -> Result<DraftPlan, Refusal>
-        ensures { result ≡ plan_answer consoles byzantine lost capacity }
+        ensures { planned result ≡ plan_answer consoles byzantine lost capacity }
     {
         let counts = Counts::new(consoles, byzantine, lost).ok_or(Refusal::OutOfRange)?;
         if !(1..=MAX_PAYLOADS).contains(&capacity) {
@@ -29,8 +30,8 @@ impl Draft {
 
     // No `From`, since making in two calls, `plan` and `new`, is a rule of the project.
     pub fn new(plan: DraftPlan) -> Draft
-        ensures made { result ≡ plan }
-        ensures sound { IsSound result }
+        ensures made { state_of result ≡ plan_of plan }
+        ensures sound { IsSound (state_of result) }
     {
         let DraftPlan { counts, capacity } = plan;
         Draft {

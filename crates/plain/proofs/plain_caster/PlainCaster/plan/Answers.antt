@@ -1,5 +1,6 @@
 -- The plan of thresholds that the draft's floor bears is sound.
 use Rattle.std.proofs.Common.{◌≡◌, sym, subst, rules, arith}
+use Rattle.floor.specs.States.{state_of}
 use Rattle.caster.specs.Floors.{InRange}
 use Rattle.quorum.specs.Rules.{Borne}
 use Rattle.quorum.specs.declared.thresholds.Thresholds.TheVariants.{Plain}
@@ -9,9 +10,9 @@ use Rattle.plain_model.specs.Plans.{SoundPlan}
 use Rattle.plain_model.proofs.MadePlans.{Drafted, made_sound}
 use Rattle.plain.proofs.plain_caster.PlainCaster.plan.Goals as goal
 
-pub invariant_of-result : goal.invariant_of-result
-invariant_of-result c =
-    let s = c.args.draft.now in
+pub invariant_of-plan : goal.invariant_of-plan
+invariant_of-plan c =
+    let s = state_of c.args.draft.now in
     let q = c.args.thresholds in
     let floor = c.from-floor.ensures in
     let drafted : Drafted s =
@@ -28,3 +29,6 @@ invariant_of-result c =
     } in
     let same : made ≡ plan_for s q = search rules in
     subst SoundPlan (sym same) (made_sound s q drafted borne)
+
+pub invariant_of-result : goal.invariant_of-result
+invariant_of-result c = record { sound = invariant_of-plan c }
