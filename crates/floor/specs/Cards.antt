@@ -1,5 +1,6 @@
 -- What a card holds, when one is refused, and when two are alike.
-use Rattle.std.specs.Prelude.{ℕ, Bool, ◌||◌, List, [], ◌∷◌, length, take, Ok, Err, Option, Result, nat_lt}
+use Rattle.std.specs.Prelude.{ℕ, Bool, ◌||◌, List, [], ◌∷◌, length, take, Option, Result, nat_lt}
+use Rattle.std.specs.Result.{result_map_both}
 use Rattle.std.proofs.lemmas.Slice.Eq.{bytes_eq-Decides}
 use Rattle.std.specs.Str.{bytes_eq}
 use Rattle.floor.specs.declared.card.Card.{Card}
@@ -17,8 +18,7 @@ card_refusal bytes = first_found (check (nat_lt (length bytes) 1 || nat_lt 16 (l
 
 -- a plan by the bytes of its card
 abbrev pub card_planned : Result CardPlan Refusal → Result (List ℕ) Refusal
-card_planned (Ok p) = Ok (card_bytes p.card)
-card_planned (Err e) = Err e
+card_planned = result_map_both (λ plan. card_bytes plan.card) (λ refusal. refusal)
 
 abbrev pub same_card : Card → Card → Bool
 same_card a b = bytes_eq (card_bytes a) (card_bytes b)

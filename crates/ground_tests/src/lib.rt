@@ -1,6 +1,7 @@
 // A walk through a set, and the refusals of draft and card in their order, at each limit and one beyond.
 #![tactic(auto)]
 
+#[cfg(test)]
 mod told;
 
 #[cfg(test)]

@@ -9,6 +9,7 @@ mod pictures;
 mod refusals;
 #[cfg(test)]
 mod scenes;
+#[cfg(test)]
 mod told;
 #[cfg(test)]
 mod waves;

@@ -59,6 +59,7 @@ impl Payload for Card {
     fn alike(&self, other: &Card) -> bool
         ensures tested { result ≡ same_card self.now other.now }
         ensures equal { IsTrue result ↔ (card_bytes self.now ≡ card_bytes other.now) }
+        ensures same { IsTrue result ↔ (self.now ≡ other.now) }
     {
         self.as_bytes() == other.as_bytes()
     }
